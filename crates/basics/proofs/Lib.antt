@@ -1,0 +1,4 @@
+pub mod Tables
+pub mod Maps
+pub mod Flags
+pub mod Limits

@@ -1,0 +1,52 @@
+-- What the encoder answers and leaves in the output, a law for each answer; and how large what it allows can be. Assumes nothing.
+use mathlib.Core.Path.{_≡_}
+use mathlib.Core.Bool.{Bool, true, false, not}
+use mathlib.Core.List.{List}
+use Prim.Native.Nat.{ℕ, _≤_, _<_}
+use lib.Dec.{T, leb, leb→le}
+use lib.ListN.{length}
+use borrow.Author.Tests.{lt-ltb, le-ltb}
+use Rattle.basics.specs.Choice.{both, between}
+use Rattle.basics.proofs.Tables.{both-left, both-right}
+use Rattle.codes.specs.declared.Encoded.the-variants.{Written, BadChoice, ShortOutput}
+use Rattle.codes.specs.declared.Sequence.{Sequence}
+use Rattle.codes.specs.Encoder.{holding, allowed, asked, lying, encodedOf, outputOf, Encodes}
+use Rattle.codes.proofs.Adding.{holding-length, holding-lies}
+use Rattle.codes.proofs.Answers.{passed, refused}
+
+module _ (set key event type mods lock : ℕ) where
+  pub allowed-range : allowed set key event type mods lock ≡ true → (set ≤ 3) × (key ≤ 104) × (type ≤ 3) × (mods ≤ 63)
+  unfolding allowed
+  allowed-range e =
+      let of-mods = both (leb mods 63) (leb lock 1) in
+      let of-type = both (leb type 3) of-mods in
+      let of-event = both (leb event 2) of-type in
+      let of-key = both (between 1 104 key) of-event in
+      let s : T (both (between 1 3 set) of-key) = rw e tt in
+      let k = both-right (between 1 3 set) of-key s in
+      let t = both-right (leb event 2) of-type (both-right (between 1 104 key) of-event k) in
+      let m = both-right (leb type 3) of-mods t in (
+        leb→le set 3 (both-right (leb 1 set) (leb set 3) (both-left (between 1 3 set) of-key s)),
+        leb→le key 104 (both-right (leb 1 key) (leb key 104) (both-left (between 1 104 key) of-event k)),
+        leb→le type 3 (both-left (leb type 3) of-mods t),
+        leb→le mods 63 (both-left (leb mods 63) (leb lock 1) m),
+      )
+
+  module _ (out : List ℕ) (a : Bool) (e : a ≡ allowed set key event type mods lock) where
+    pub bad-choice : not a ≡ true → Encodes set key event type mods lock out BadChoice out
+    unfolding encodedOf outputOf
+    bad-choice n = record { answer = rw (refused e n); output = rw (refused e n) }
+
+    module _ (p : not a ≡ false) where
+      pub short-output : length out < 8 → Encodes set key event type mods lock out ShortOutput out
+      unfolding encodedOf outputOf
+      short-output h = record { answer = rw (passed e p, lt-ltb _ _ h); output = rw (passed e p, lt-ltb _ _ h) }
+
+      pub written : (s : Sequence) (out′ : List ℕ) → 8 ≤ length out
+          → s ≡ holding (asked set key event type mods lock) → out′ ≡ lying s out
+          → Encodes set key event type mods lock out (Written (s .length)) out′
+      unfolding encodedOf outputOf
+      written s out′ h d w = record {
+        answer = rw (passed e p, le-ltb _ _ h, d, holding-length (asked set key event type mods lock));
+        output = rw (passed e p, le-ltb _ _ h, w, d) (holding-lies (asked set key event type mods lock) out);
+      }

@@ -1,0 +1,7 @@
+pub mod Answers
+pub mod Adding
+pub mod AtOnce
+pub mod Lengths
+pub mod PlainKeys
+pub mod Writing
+pub mod Encoding

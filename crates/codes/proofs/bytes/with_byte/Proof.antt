@@ -1,0 +1,19 @@
+-- `codes::bytes::with_byte` meets its contract: one byte more is what `adding` does once. Assumes nothing.
+use mathlib.Core.Path.{refl}
+use Rattle.codes.specs.Encoder.{adding}
+use borrow.Author.Needs.{needs}
+use Rattle.codes.proofs.bytes.with_byte.Statement.{statement}
+use Rattle.codes.proofs.bytes.with_byte.Tie as tie
+
+element-write-t : tie.Need-element-write-t
+element-write-t c = search needs
+
+add-t : tie.Need-add-t
+add-t c = search needs
+
+returns : tie.Need-returns
+unfolding adding
+returns c = refl
+
+pub with-byte-spec : {M : Type 1} → statement M
+with-byte-spec = tie.close (tie.spec element-write-t add-t returns)

@@ -1,0 +1,69 @@
+-- `codes::encoder::write` meets its contract. The loop's invariant: the first `i` bytes stand at the front of the output, and all
+-- behind them is as it was. The measure is the number of bytes that are left. Assumes nothing.
+use native.Mathlib.Omega.{arith}
+use mathlib.Core.Path.{_≡_, refl, ap, _∙_}
+use mathlib.Core.List.{_++_}
+use Prim.Native.Nat.{ℕ, _≤_, _-_}
+use native.Mathlib.Nat.{le-antisymm}
+use lib.ListN.{length, take, drop}
+use Rattle.codes.proofs.Writing.{written-length, written-more}
+use borrow.Author.Needs.{needs}
+use Rattle.codes.proofs.encoder.write.Statement.{statement}
+use Rattle.codes.proofs.encoder.write.Tie as tie
+
+abbrev Inv-loop : tie.InvT-loop
+Inv-loop out₀ n bytes i₀ out i = (i ≤ n) × (out ≡ take i bytes ++ drop i out₀)
+
+abbrev μ-loop : tie.MeasureT-loop
+μ-loop out₀ n bytes i₀ out i = n - i
+
+loop-holds : tie.Need-loop-holds Inv-loop μ-loop
+loop-holds c = (omega arith, refl)
+
+array-read-out : tie.Need-array-read-out Inv-loop μ-loop
+array-read-out c = omega arith
+
+slice-write-out : tie.Need-slice-write-out Inv-loop μ-loop
+slice-write-out c =
+    let b = c .before .before .before .args .s .bytes in
+    let g : length b ≡ 8 = search needs in
+    omega (arith, written-length b _ _ (c .before .loop .i) (c .before .loop .inv .1) (omega arith) (omega arith))
+
+add-i : tie.Need-add-i Inv-loop μ-loop
+add-i c = omega arith
+
+loop-less : tie.Need-loop-less Inv-loop μ-loop
+loop-less c = omega arith
+
+loop-again : tie.Need-loop-again Inv-loop μ-loop
+loop-again c =
+    let b = c .before .before .before .args .s .bytes in
+    let g : length b ≡ 8 = search needs in
+    (omega arith, written-more b _ _ (c .before .loop .i) (c .before .loop .inv .1) (omega arith) (omega arith))
+
+same-length : tie.Need-same-length Inv-loop μ-loop
+same-length c =
+    let b = c .before .before .before .args .s .bytes in
+    let g : length b ≡ 8 = search needs in
+    written-length b _ _ (c .before .loop .i) (c .before .loop .inv .1) (omega arith) (omega arith)
+
+returns : tie.Need-returns Inv-loop μ-loop
+returns c =
+    let a = c .before .before .before .args in
+    c .before .loop .inv .1
+    ∙ ap (λ (k : ℕ). take k (a .s .bytes) ++ drop k (a .out .now)) (le-antisymm (c .before .loop .inv .0) (c .loop-test .left))
+
+pub write-spec : {M : Type 1} → statement M
+write-spec =
+    tie.close
+    (tie.spec
+    Inv-loop
+    μ-loop
+    loop-holds
+    array-read-out
+    slice-write-out
+    add-i
+    loop-less
+    loop-again
+    same-length
+    returns)

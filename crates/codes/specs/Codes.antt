@@ -1,0 +1,128 @@
+-- The bytes of a press, a release and a repeat (docs/RULES.md, section 3). Assumes nothing.
+use Prim.Native.Nat.{ℕ, _+_, _/_, _%_}
+use mathlib.Core.Bool.{Bool, true, false, not}
+use mathlib.Core.List.{List, [], _∷_, _++_}
+use lib.Dec.{eqb}
+use Rattle.keys.specs.Keys.{codeIn, altPrint, leftWrap, rightWrap, typematic, makeBreak, typematicMakeBreak}
+use Rattle.codes.specs.declared.Action.{Action}
+use Rattle.codes.specs.declared.Action.the-variants.{Press, Release, Repeat}
+use Rattle.codes.specs.declared.Form.{Form}
+use Rattle.codes.specs.declared.Form.the-variants.{Plain, ShiftLeft, ShiftRight, ShiftBoth, NumLock, Other}
+use Rattle.basics.specs.Choice.{pick, both, either, between}
+use Rattle.codes.specs.Modifiers.{shifts, shiftHeld, controlHeld, altHeld}
+
+-- The keys that do not follow the table alone.
+abbrev pub isCursor : ℕ → Bool
+isCursor key = between 59 68 key
+
+abbrev pub isKeypadSlash : ℕ → Bool
+isKeypadSlash key = eqb key 70
+
+abbrev pub isPrint : ℕ → Bool
+isPrint key = eqb key 99
+
+abbrev pub isPause : ℕ → Bool
+isPause key = eqb key 101
+
+-- A code is the byte that is sent, with 0xe000 added where E0 goes before it.
+unfoldable pub prefix : ℕ → List ℕ
+prefix code = pick (eqb (code / 256) 0) [] ((code / 256) ∷ [])
+
+-- What a code sends when its key goes down: itself.
+unfoldable pub makeOf : ℕ → List ℕ
+makeOf code = prefix code ++ (code % 256) ∷ []
+
+-- What a code sends when its key comes up: in set 1 itself with the top bit set, in sets 2 and 3 itself behind F0.
+unfoldable pub breakOf : ℕ → ℕ → List ℕ
+breakOf set code = prefix code ++ pick (eqb set 1) ((code % 128 + 128) ∷ []) (0xf0 ∷ (code % 256) ∷ [])
+
+-- What a form sends before a make: held SHIFTs seem to come up, and under Num Lock one seems to go down.
+unfoldable pub before : ℕ → Form → List ℕ
+before set Plain = []
+before set ShiftLeft = breakOf set (leftWrap set)
+before set ShiftRight = breakOf set (rightWrap set)
+before set ShiftBoth = breakOf set (leftWrap set) ++ breakOf set (rightWrap set)
+before set NumLock = makeOf (leftWrap set)
+before set Other = []
+
+-- What a form sends after a break: the same undone, last first.
+unfoldable pub after : ℕ → Form → List ℕ
+after set Plain = []
+after set ShiftLeft = makeOf (leftWrap set)
+after set ShiftRight = makeOf (rightWrap set)
+after set ShiftBoth = makeOf (rightWrap set) ++ makeOf (leftWrap set)
+after set NumLock = breakOf set (leftWrap set)
+after set Other = []
+
+-- The form that held SHIFTs give.
+unfoldable pub shiftForm : ℕ → Form
+shiftForm mods =
+    pick (eqb (shifts mods) 0) Plain
+    (pick (eqb (shifts mods) 1) ShiftLeft
+    (pick (eqb (shifts mods) 2) ShiftRight ShiftBoth))
+
+-- The ten cursor keys: SHIFT without Num Lock, and Num Lock without SHIFT, have forms of their own.
+unfoldable pub cursorForm : ℕ → Bool → Form
+cursorForm mods lock = pick lock (pick (shiftHeld mods) Plain NumLock) (shiftForm mods)
+
+-- PRINT: its Alt form if an ALT is held, else its code bare if a CTRL or SHIFT is, else wrapped as under Num Lock.
+unfoldable pub printForm : ℕ → Form
+printForm mods = pick (altHeld mods) Other (pick (either (controlHeld mods) (shiftHeld mods)) Plain NumLock)
+
+-- PAUSE: its Ctrl form if a CTRL is held.
+unfoldable pub pauseForm : ℕ → Form
+pauseForm mods = pick (controlHeld mods) Other Plain
+
+-- The form that a key takes by the modifiers held and Num Lock at that moment; set 3 ignores both.
+unfoldable pub formOf : ℕ → ℕ → ℕ → Bool → Form
+formOf set key mods lock =
+    pick (eqb set 3) Plain
+    (pick (isCursor key) (cursorForm mods lock)
+    (pick (isKeypadSlash key) (shiftForm mods)
+    (pick (isPrint key) (printForm mods)
+    (pick (isPause key) (pauseForm mods) Plain))))
+
+-- The form that PRINT has with ALT, and PAUSE with CTRL.
+abbrev pub isOther : Form → Bool
+isOther Plain = false
+isOther ShiftLeft = false
+isOther ShiftRight = false
+isOther ShiftBoth = false
+isOther NumLock = false
+isOther Other = true
+
+-- The code of a key in a form: PRINT has another one in its other form.
+unfoldable pub codeOf : ℕ → ℕ → Form → ℕ
+codeOf set key form = pick (both (isPrint key) (isOther form)) (altPrint set) (codeIn set key)
+
+-- In sets 1 and 2 PAUSE sends all that it has on its press, and nothing on its release.
+abbrev pub pausesAtOnce : ℕ → ℕ → Bool
+pausesAtOnce set key = both (isPause key) (either (eqb set 1) (eqb set 2))
+
+-- All of PAUSE: with CTRL the make and break of its code; else E1 before the makes of CTRL_L and NUM, and E1 before their breaks.
+unfoldable pub pauseBytes : ℕ → Form → List ℕ
+pauseBytes set form =
+    pick (isOther form)
+    (makeOf (codeIn set 101) ++ breakOf set (codeIn set 101))
+    (0xe1 ∷ makeOf (codeIn set 54) ++ makeOf (codeIn set 69)
+    ++ 0xe1 ∷ breakOf set (codeIn set 54) ++ breakOf set (codeIn set 69))
+
+-- A release is sent in sets 1 and 2, and in set 3 by the two types with Break in their name.
+unfoldable pub sendsRelease : ℕ → ℕ → Bool
+sendsRelease set type = either (not (eqb set 3)) (either (eqb type makeBreak) (eqb type typematicMakeBreak))
+
+-- PAUSE never repeats; any other key does, in set 3 only by the two Typematic types.
+unfoldable pub mayRepeat : ℕ → ℕ → ℕ → Bool
+mayRepeat set key type = both (not (isPause key)) (either (not (eqb set 3)) (either (eqb type typematic) (eqb type typematicMakeBreak)))
+
+-- The bytes of an action in a form. A repeat leaves all wrapping out.
+unfoldable pub bytesOf : ℕ → ℕ → Action → ℕ → Form → List ℕ
+bytesOf set key Press type form =
+    pick (pausesAtOnce set key) (pauseBytes set form) (before set form ++ makeOf (codeOf set key form))
+bytesOf set key Release type form =
+    pick (pausesAtOnce set key) [] (pick (sendsRelease set type) (breakOf set (codeOf set key form) ++ after set form) [])
+bytesOf set key Repeat type form = pick (mayRepeat set key type) (makeOf (codeOf set key form)) []
+
+-- The bytes that an action of a key sends.
+unfoldable pub encode : ℕ → ℕ → Action → ℕ → ℕ → Bool → List ℕ
+encode set key action type mods lock = bytesOf set key action type (formOf set key mods lock)

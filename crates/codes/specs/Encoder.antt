@@ -1,0 +1,73 @@
+-- The encoder that is asked with numbers and lent an output (docs/RULES.md, sections 3 and 9). Assumes nothing.
+use Prim.Native.Nat.{ℕ, _-_, _+_}
+use mathlib.Core.Path.{_≡_}
+use mathlib.Core.Bool.{Bool}
+use mathlib.Core.List.{List, [], _∷_, _++_}
+use lib.Dec.{eqb, ltb, leb}
+use lib.ListN.{length, take, drop, replicate, set}
+use Rattle.codes.specs.declared.Action.{Action}
+use Rattle.codes.specs.declared.Action.the-variants.{Press, Release, Repeat}
+use Rattle.codes.specs.declared.Encoded.{Encoded}
+use Rattle.codes.specs.declared.Encoded.the-variants.{Written, BadChoice, ShortOutput}
+use Rattle.codes.specs.declared.Sequence.{Sequence}
+use Rattle.basics.specs.Choice.{pick, both, between}
+use Rattle.codes.specs.Codes.{encode}
+
+-- A sequence that holds these bytes, zeros behind them.
+unfoldable pub holding : List ℕ → Sequence
+holding bytes = record { bytes = bytes ++ replicate (8 - length bytes) 0; length = length bytes }
+
+-- A sequence with further bytes put behind its own.
+unfoldable pub adding : Sequence → List ℕ → Sequence
+adding s [] = s
+adding s (byte ∷ rest) = adding (record { bytes = set (s .bytes) (s .length) byte; length = s .length + 1 }) rest
+
+-- The action that an event's number asks for: 0 a press, 1 a release, 2 a repeat.
+abbrev pub actionOf : ℕ → Action
+actionOf event = pick (eqb event 0) Press (pick (eqb event 1) Release Repeat)
+
+-- What the encoder may be asked for.
+unfoldable pub allowed : ℕ → ℕ → ℕ → ℕ → ℕ → ℕ → Bool
+allowed set key event type mods lock =
+    both (between 1 3 set)
+    (both (between 1 104 key)
+    (both (leb event 2)
+    (both (leb type 3)
+    (both (leb mods 63) (leb lock 1)))))
+
+-- The bytes that these numbers ask for.
+unfoldable pub asked : ℕ → ℕ → ℕ → ℕ → ℕ → ℕ → List ℕ
+asked set key event type mods lock = encode set key (actionOf event) type mods (eqb lock 1)
+
+-- The answer: a choice out of its range is refused first, then an output under 8 bytes; else the number of bytes written.
+unfoldable pub encodedOf : ℕ → ℕ → ℕ → ℕ → ℕ → ℕ → List ℕ → Encoded
+encodedOf set key event type mods lock out =
+    pick (allowed set key event type mods lock)
+    (pick (ltb (length out) 8) ShortOutput (Written (length (asked set key event type mods lock))))
+    BadChoice
+
+-- A list with its first places taken by another.
+abbrev pub over : List ℕ → List ℕ → List ℕ
+over bytes out = bytes ++ drop (length bytes) out
+
+-- The lent output afterwards: the bytes asked for at its front, and all as before behind them or after a refusal.
+unfoldable pub outputOf : ℕ → ℕ → ℕ → ℕ → ℕ → ℕ → List ℕ → List ℕ
+outputOf set key event type mods lock out =
+    pick (allowed set key event type mods lock)
+    (pick (ltb (length out) 8) out (over (asked set key event type mods lock) out))
+    out
+
+-- The bytes of a sequence at the front of a list.
+abbrev pub lying : Sequence → List ℕ → List ℕ
+lying s out = take (s .length) (s .bytes) ++ drop (s .length) out
+
+-- What the encoder promises, refused or not: the answer, and all of the lent output.
+pub record Encodes (set key event type mods lock : ℕ) (out : List ℕ) (r : Encoded) (out′ : List ℕ) : Type 0 where
+  pub answer : r ≡ encodedOf set key event type mods lock out
+  pub output : out′ ≡ outputOf set key event type mods lock out
+
+-- The number that is given back (docs/RULES.md, section 9).
+abbrev pub numberOf : Encoded → ℕ
+numberOf (Written count) = 0
+numberOf ShortOutput = 6
+numberOf BadChoice = 7

@@ -1,0 +1,3 @@
+pub mod Modifiers
+pub mod Codes
+pub mod Encoder

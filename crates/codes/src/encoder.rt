@@ -1,0 +1,96 @@
+// The encoder as the outside asks it: with numbers, and with an output that is lent.
+use crate::Action;
+use crate::Encoded;
+use crate::Sequence;
+use crate::strokes::sequence_of;
+ghost use mathlib.Core.Path.{_≡_};
+ghost use Prim.Native.Nat.{_≤_};
+ghost use lib.ListN.{length};
+ghost use Rattle.basics.specs.Choice.{between};
+ghost use Rattle.codes.specs.Encoder.{actionOf, allowed, Encodes, lying};
+
+// A number from low to high, both included.
+fn is_between(low: u32, high: u32, n: u32) -> bool
+    ensures { λ r. ⌜ r ≡ between low high n ⌝ }
+{
+    low <= n && n <= high
+}
+
+// What the encoder may be asked for.
+fn is_allowed(set: u32, key: u32, event: u32, kind: u32, modifiers: u32, lock: u32) -> bool
+    ensures { λ r. ⌜ r ≡ allowed set key event kind modifiers lock ⌝ }
+{
+    if !is_between(1, 3, set) {
+        return false;
+    }
+    if !is_between(1, 104, key) {
+        return false;
+    }
+    if 2 < event {
+        return false;
+    }
+    if 3 < kind {
+        return false;
+    }
+    if 63 < modifiers {
+        return false;
+    }
+    lock <= 1
+}
+
+// The action that an event's number asks for.
+fn action_of(event: u32) -> Action
+    ensures { λ r. ⌜ r ≡ actionOf event ⌝ }
+{
+    if event == 0 {
+        return Action::Press;
+    }
+    if event == 1 {
+        return Action::Release;
+    }
+    Action::Repeat
+}
+
+// Writes a sequence to the front of the output.
+fn write(s: Sequence, out: &mut [u8])
+    requires { ⌜ (s .length ≤ 8) × (8 ≤ length (now out)) ⌝ }
+    ensures { λ _. ⌜ now (out .exit) ≡ lying s (now (out .entry)) ⌝ }
+{
+    let n = s.length;
+    let bytes = s.bytes;
+    let mut i: usize = 0;
+    while i < n {
+        out[i] = bytes[i];
+        i += 1;
+    }
+}
+
+// The bytes of a key: set 1 to 3, key 1 to 104, event 0 press, 1 release, 2 repeat, type 0 to 3, modifiers 0 to 63, Num Lock 0 or 1.
+pub fn encode(
+    set: u32,
+    key: u32,
+    event: u32,
+    kind: u32,
+    modifiers: u32,
+    lock: u32,
+    out: &mut [u8],
+) -> Encoded
+    ensures { λ r. ⌜ Encodes set key event kind modifiers lock (now (out .entry)) r (now (out .exit)) ⌝ }
+{
+    if !is_allowed(set, key, event, kind, modifiers, lock) {
+        return Encoded::BadChoice;
+    }
+    if out.len() < 8 {
+        return Encoded::ShortOutput;
+    }
+    let s = sequence_of(
+        set as u8,
+        key as u8,
+        action_of(event),
+        kind as u8,
+        modifiers as u8,
+        lock == 1,
+    );
+    write(s, out);
+    Encoded::Written(s.length)
+}

@@ -1,0 +1,53 @@
+// The encoder (docs/RULES.md, section 3): the bytes that a press, a release or a repeat of a key sends.
+pub mod bytes; // bytes.rt: bytes put one after another
+pub mod forms; // forms.rt: which form a key takes
+pub mod strokes; // strokes.rt: the bytes of an action
+pub mod encoder; // encoder.rt: the encoder that is asked with numbers and lent an output
+
+// The keys that do not follow the table alone: the ten cursor keys, and three more.
+pub const FIRST_CURSOR: u8 = 59;
+
+pub const LAST_CURSOR: u8 = 68;
+
+pub const KEYPAD_SLASH: u8 = 70;
+
+pub const PRINT: u8 = 99;
+
+pub const PAUSE: u8 = 101;
+
+// What a key does.
+pub enum Action {
+    Press,
+    Release,
+    Repeat,
+}
+
+// The shape that a key's bytes take by the modifiers and Num Lock.
+pub enum Form {
+    // The code alone.
+    Plain,
+    // Wrapped, so that the SHIFTs that are held seem not to be.
+    ShiftLeft,
+    ShiftRight,
+    ShiftBoth,
+    // Wrapped, so that a SHIFT seems to be held: cursor keys under Num Lock, and PRINT by itself.
+    NumLock,
+    // The other form of PRINT, with ALT, and of PAUSE, with CTRL.
+    Other,
+}
+
+// The bytes of one action: the first `length` of `bytes`, and zeros behind them.
+pub struct Sequence {
+    pub bytes: [u8; 8],
+    pub length: usize,
+}
+
+// What the encoder answers.
+pub enum Encoded {
+    // So many bytes stand at the front of the lent output.
+    Written(usize),
+    // A set, key, event, type or choice of modifiers out of its range.
+    BadChoice,
+    // A lent output under 8 bytes.
+    ShortOutput,
+}

@@ -1,0 +1,254 @@
+// The bytes of an action.
+use crate::Action;
+use crate::Form;
+use crate::PAUSE;
+use crate::PRINT;
+use crate::Sequence;
+use crate::bytes::empty;
+use crate::bytes::with_break;
+use crate::bytes::with_make;
+use crate::forms::form_of;
+ghost use mathlib.Core.Path.{_≡_};
+ghost use mathlib.Core.List.{_++_};
+ghost use Rattle.basics.specs.Choice.{both};
+ghost use Rattle.codes.specs.Codes.{makeOf, before, after, isPrint, isOther, codeOf, pauseBytes, pausesAtOnce, sendsRelease, mayRepeat, bytesOf, encode};
+ghost use Rattle.keys.specs.Keys.{codeIn, leftWrap, rightWrap};
+ghost use Rattle.codes.specs.declared.Action.the-variants.{Press, Release, Repeat};
+ghost use Rattle.codes.specs.Encoder.{holding, adding};
+ghost use Prim.Native.Nat.{ℕ, _≤_};
+
+// The code of SHIFT_L behind E0.
+fn left_wrap(set: u8) -> u16
+    ensures { λ r. ⌜ r ≡ leftWrap set ⌝ }
+{
+    if set == 1 { 0xe02a } else { 0xe012 }
+}
+
+// The code of SHIFT_R behind E0.
+fn right_wrap(set: u8) -> u16
+    ensures { λ r. ⌜ r ≡ rightWrap set ⌝ }
+{
+    if set == 1 { 0xe036 } else { 0xe059 }
+}
+
+// What a form sends before a make.
+fn with_before(s: Sequence, set: u8, form: Form) -> Sequence
+    requires { ⌜ s .length ≤ 2 ⌝ }
+    ensures { λ r. ⌜ r ≡ adding s (before set form) ⌝ }
+{
+    let left = left_wrap(set);
+    let right = right_wrap(set);
+    match form {
+        Form::Plain => s,
+        Form::ShiftLeft => with_break(s, set, left),
+        Form::ShiftRight => with_break(s, set, right),
+        Form::ShiftBoth => {
+            let first = with_break(s, set, left);
+            with_break(first, set, right)
+        }
+        Form::NumLock => with_make(s, left),
+        Form::Other => s,
+    }
+}
+
+// What a form sends after a break.
+fn with_after(s: Sequence, set: u8, form: Form) -> Sequence
+    requires { ⌜ s .length ≤ 4 ⌝ }
+    ensures { λ r. ⌜ r ≡ adding s (after set form) ⌝ }
+{
+    let left = left_wrap(set);
+    let right = right_wrap(set);
+    match form {
+        Form::Plain => s,
+        Form::ShiftLeft => with_make(s, left),
+        Form::ShiftRight => with_make(s, right),
+        Form::ShiftBoth => {
+            let first = with_make(s, right);
+            with_make(first, left)
+        }
+        Form::NumLock => with_break(s, set, left),
+        Form::Other => s,
+    }
+}
+
+// The code of a key by the table: the one place where an action looks into it.
+fn code_in(set: u8, key: u8) -> u16
+    ensures { λ r. ⌜ r ≡ codeIn set key ⌝ }
+{
+    let row = keys::row_of(key);
+    if set == 1 {
+        return row.0;
+    }
+    if set == 2 {
+        return row.1;
+    }
+    row.2
+}
+
+// The other form of PRINT or PAUSE.
+fn is_other(form: Form) -> bool
+    ensures { λ r. ⌜ r ≡ isOther form ⌝ }
+{
+    match form {
+        Form::Plain => false,
+        Form::ShiftLeft => false,
+        Form::ShiftRight => false,
+        Form::ShiftBoth => false,
+        Form::NumLock => false,
+        Form::Other => true,
+    }
+}
+
+// PRINT in its other form.
+fn is_other_print(key: u8, form: Form) -> bool
+    ensures { λ r. ⌜ r ≡ both (isPrint key) (isOther form) ⌝ }
+{
+    if key != PRINT {
+        return false;
+    }
+    is_other(form)
+}
+
+// The code of a key in a form.
+fn code_of(set: u8, key: u8, form: Form) -> u16
+    ensures { λ r. ⌜ r ≡ codeOf set key form ⌝ }
+{
+    if is_other_print(key, form) {
+        return if set == 1 { 0x54 } else { 0x84 };
+    }
+    code_in(set, key)
+}
+
+// All of PAUSE in set 1 or 2, written out.
+fn pause(set: u8, form: Form) -> Sequence
+    requires { ⌜ (1 ≤ set) × (set ≤ 2) ⌝ }
+    ensures { λ r. ⌜ r ≡ holding (pauseBytes set form) ⌝ }
+{
+    if is_other(form) {
+        if set == 1 {
+            return Sequence {
+                bytes: [0xe0, 0x46, 0xe0, 0xc6, 0, 0, 0, 0],
+                length: 4,
+            };
+        }
+        return Sequence {
+            bytes: [0xe0, 0x7e, 0xe0, 0xf0, 0x7e, 0, 0, 0],
+            length: 5,
+        };
+    }
+    if set == 1 {
+        return Sequence {
+            bytes: [0xe1, 0x1d, 0x45, 0xe1, 0x9d, 0xc5, 0, 0],
+            length: 6,
+        };
+    }
+    Sequence {
+        bytes: [0xe1, 0x14, 0x77, 0xe1, 0xf0, 0x14, 0xf0, 0x77],
+        length: 8,
+    }
+}
+
+// PAUSE in set 1 or 2, which sends all on its press.
+fn pauses_at_once(set: u8, key: u8) -> bool
+    ensures { λ r. ⌜ r ≡ pausesAtOnce set key ⌝ }
+{
+    if key != PAUSE {
+        return false;
+    }
+    if set == 1 {
+        return true;
+    }
+    set == 2
+}
+
+// A release is sent.
+fn sends_release(set: u8, kind: u8) -> bool
+    ensures { λ r. ⌜ r ≡ sendsRelease set kind ⌝ }
+{
+    if set != 3 {
+        return true;
+    }
+    if kind == keys::MAKE_BREAK {
+        return true;
+    }
+    kind == keys::TYPEMATIC_MAKE_BREAK
+}
+
+// A key of this type repeats while it is held.
+pub fn may_repeat(set: u8, key: u8, kind: u8) -> bool
+    ensures { λ r. ⌜ r ≡ mayRepeat set key kind ⌝ }
+{
+    if key == PAUSE {
+        return false;
+    }
+    if set != 3 {
+        return true;
+    }
+    if kind == keys::TYPEMATIC {
+        return true;
+    }
+    kind == keys::TYPEMATIC_MAKE_BREAK
+}
+
+// A key's make in its form, behind what a wrapping sends.
+fn made(set: u8, key: u8, form: Form, wrapping: Form) -> Sequence
+    ensures { λ r. ⌜ r ≡ holding (before set wrapping ++ makeOf (codeOf set key form)) ⌝ }
+{
+    let start = with_before(empty(), set, wrapping);
+    with_make(start, code_of(set, key, form))
+}
+
+// The bytes of a press, which no type changes.
+fn press(set: u8, key: u8, form: Form) -> Sequence
+    ensures { λ r. ⌜ ((kind : ℕ) → r ≡ holding (bytesOf set key Press kind form)) ⌝ }
+{
+    if pauses_at_once(set, key) {
+        return pause(set, form);
+    }
+    made(set, key, form, form)
+}
+
+// The bytes of a release.
+fn release(set: u8, key: u8, kind: u8, form: Form) -> Sequence
+    ensures { λ r. ⌜ r ≡ holding (bytesOf set key Release kind form) ⌝ }
+{
+    let none = empty();
+    let sent = pauses_at_once(set, key); // with the press
+    if sent {
+        return none;
+    }
+    if !sends_release(set, kind) {
+        return none;
+    }
+    let start = with_break(none, set, code_of(set, key, form));
+    with_after(start, set, form)
+}
+
+// The bytes of a repeat, which is never wrapped.
+fn repeat(set: u8, key: u8, kind: u8, form: Form) -> Sequence
+    ensures { λ r. ⌜ r ≡ holding (bytesOf set key Repeat kind form) ⌝ }
+{
+    if !may_repeat(set, key, kind) {
+        return empty();
+    }
+    made(set, key, form, Form::Plain)
+}
+
+// The bytes that an action of a key sends.
+pub fn sequence_of(
+    set: u8,
+    key: u8,
+    action: Action,
+    kind: u8,
+    modifiers: u8,
+    lock: bool,
+) -> Sequence
+    ensures { λ r. ⌜ r ≡ holding (encode set key action kind modifiers lock) ⌝ }
+{
+    let form = form_of(set, key, modifiers, lock);
+    match action {
+        Action::Press => press(set, key, form),
+        Action::Release => release(set, key, kind, form),
+        Action::Repeat => repeat(set, key, kind, form),
+    }
+}

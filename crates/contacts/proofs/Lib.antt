@@ -1,0 +1,7 @@
+pub mod Rectangles
+pub mod Bytes
+pub mod Pointwise
+pub mod Renewals
+pub mod Columns
+pub mod Sameness
+pub mod Passes

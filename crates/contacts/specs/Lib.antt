@@ -1,0 +1,3 @@
+pub mod Scans
+pub mod Phantom
+pub mod Counts

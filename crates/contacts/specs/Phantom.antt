@@ -1,0 +1,31 @@
+-- The phantom test (docs/RULES.md, section 5). Assumes nothing.
+use Prim.Native.Nat.{ℕ}
+use mathlib.Core.Bool.{Bool, true, false}
+use mathlib.Core.List.{List, [], _∷_}
+use lib.Dec.{leb}
+use lib.Count.{ones}
+use lib.Bits.{bitAnd}
+use Rattle.basics.specs.Choice.{either}
+
+-- Two or more rows of a column are closed.
+abbrev pub twoClosed : ℕ → Bool
+twoClosed rows = leb 2 (ones rows)
+
+-- Two columns have two or more closed rows in common.
+abbrev pub shares : ℕ → ℕ → Bool
+shares x y = twoClosed (bitAnd x y)
+
+-- A column shares with one of these.
+unfoldable pub sharesAny : ℕ → List ℕ → Bool
+sharesAny x [] = false
+sharesAny x (y ∷ ys) = either (shares x y) (sharesAny x ys)
+
+-- A scan is phantom if two different columns share.
+unfoldable pub isPhantom : List ℕ → Bool
+isPhantom [] = false
+isPhantom (x ∷ xs) = either (sharesAny x xs) (isPhantom xs)
+
+-- One of these columns has two or more closed rows.
+unfoldable pub anyTwoClosed : List ℕ → Bool
+anyTwoClosed [] = false
+anyTwoClosed (x ∷ xs) = either (twoClosed x) (anyTwoClosed xs)

@@ -1,0 +1,135 @@
+// Contact history: a contact turns at the third counted scan in a row that shows it otherwise.
+use crate::Contacts;
+ghost use mathlib.Core.Path.{_≡_};
+ghost use Prim.Native.Nat.{_*_, _<_};
+ghost use lib.ListN.{length};
+ghost use Rattle.basics.specs.Lists.{allUpTo};
+ghost use Rattle.contacts.specs.Scans.{same};
+ghost use Rattle.contacts.specs.Counts.{nextCount, nextClosed, renewed, columnCounts, columnClosed, atRest, countedOf};
+
+// So many counted scans in a row against a contact, and the next one turns it.
+const NEARLY: u8 = 2;
+
+// One contact, seen and closed each 1 or 0: its count after this scan,
+fn next_count(seen: u8, closed: u8, count: u8) -> u8
+    ensures { λ r. ⌜ r ≡ nextCount seen closed count ⌝ }
+{
+    if seen == closed {
+        return 0;
+    }
+    if count < NEARLY {
+        return count + 1;
+    }
+    0
+}
+
+// and what it counts as.
+fn next_closed(seen: u8, closed: u8, count: u8) -> u8
+    ensures { λ r. ⌜ r ≡ nextClosed seen closed count ⌝ }
+{
+    if seen == closed {
+        return closed;
+    }
+    if count < NEARLY {
+        return closed;
+    }
+    seen
+}
+
+// A column that shows what counts: no row of scans is under way in it any more.
+fn still(counts: &mut [u8; 144], column: usize)
+    requires { ⌜ column < 18 ⌝ }
+    ensures { λ r. ⌜ now (counts .exit) ≡ renewed (λ row count. 0) (8 * column) 8 (now (counts .entry)) ⌝ }
+{
+    let first = 8 * column;
+    let mut r: usize = 0;
+    while r < 8 {
+        counts[first + r] = 0;
+        r += 1;
+    }
+}
+
+// A column that shows something else, contact by contact: the column as it then counts.
+fn stirred(counts: &mut [u8; 144], column: usize, seen: u8, closed: u8) -> u8
+    requires { ⌜ column < 18 ⌝ }
+    ensures contacts { λ r. ⌜ r ≡ columnClosed column seen closed (now (counts .entry)) ⌝ }
+    ensures counts { λ r. ⌜ now (counts .exit) ≡ columnCounts column seen closed (now (counts .entry)) ⌝ }
+{
+    let first = 8 * column;
+    let mut sum: u8 = 0;
+    let mut r: usize = 0;
+    while r < 8 {
+        let s = (seen >> r) % 2;
+        let d = (closed >> r) % 2;
+        let n = counts[first + r];
+        counts[first + r] = next_count(s, d, n);
+        sum += next_closed(s, d, n) << r;
+        r += 1;
+    }
+    sum
+}
+
+// The scan shows what counts.
+fn shows(closed: &[u8; 18], scan: &[u8]) -> bool
+    requires { ⌜ (length (now closed) ≡ 18) × (length (now scan) ≡ 18) ⌝ }
+    ensures { λ r. ⌜ r ≡ same (now (scan .entry)) (now (closed .entry)) ⌝ }
+{
+    let mut all = true;
+    let mut i: usize = 0;
+    while i < 18 {
+        if scan[i] != closed[i] {
+            all = false;
+        }
+        i += 1;
+    }
+    all
+}
+
+// No row of scans is under way.
+fn none_counted(counts: &[u8; 144]) -> bool
+    requires { ⌜ length (now counts) ≡ 144 ⌝ }
+    ensures { λ r. ⌜ r ≡ allUpTo 0 (now (counts .entry)) ⌝ }
+{
+    let mut none = true;
+    let mut p: usize = 0;
+    while p < 144 {
+        if 0 < counts[p] {
+            none = false;
+        }
+        p += 1;
+    }
+    none
+}
+
+// Both: a scan of an idle panel, or of keys that are held.
+fn at_rest(k: Contacts, scan: &[u8]) -> bool
+    requires { ⌜ length (now scan) ≡ 18 ⌝ }
+    ensures { λ r. ⌜ r ≡ atRest k (now (scan .entry)) ⌝ }
+{
+    if !shows(&k.closed, scan) {
+        return false;
+    }
+    none_counted(&k.counts)
+}
+
+// The contacts after a counted scan.
+pub fn counted(k: Contacts, scan: &[u8]) -> Contacts
+    requires { ⌜ length (now scan) ≡ 18 ⌝ }
+    ensures { λ r. ⌜ r ≡ countedOf k (now (scan .entry)) ⌝ }
+{
+    if at_rest(k, scan) {
+        return k;
+    }
+    let mut closed = k.closed;
+    let mut counts = k.counts;
+    let mut c: usize = 0;
+    while c < 18 {
+        if scan[c] == closed[c] {
+            still(&mut counts, c);
+        } else {
+            closed[c] = stirred(&mut counts, c, scan[c], closed[c]);
+        }
+        c += 1;
+    }
+    Contacts { closed, counts }
+}

@@ -1,0 +1,11 @@
+// Scans of the contacts (docs/RULES.md, section 5): is a scan to be believed, and what does it make of the contacts.
+pub mod phantom; // phantom.rt: a scan that shows a whole rectangle is not to be believed
+pub mod history; // history.rt: a contact turns at the third scan in a row that shows it otherwise
+
+// The contacts as they count.
+pub struct Contacts {
+    // Laid out as a scan: bit r of column c is the contact at position 8 c + r.
+    pub closed: [u8; 18],
+    // For each position the counted scans in a row that showed it otherwise: 0 to 2.
+    pub counts: [u8; 144],
+}

@@ -1,0 +1,38 @@
+-- Frames as numbers (docs/RULES.md, section 2). Assumes nothing.
+use Prim.Native.Nat.{ℕ, _+_, _*_, _/_, _%_, _^_}
+use mathlib.Core.Bool.{Bool}
+use lib.Dec.{eqb, ltb}
+use lib.Count.{ones}
+use Rattle.basics.specs.Choice.{pick, both}
+use Rattle.frames.specs.declared.Unpacked.{Unpacked}
+use Rattle.frames.specs.declared.Unpacked.the-variants.{Byte, Broken, TooLarge}
+
+-- The parity bit of a byte makes the number of ones of the two odd.
+unfoldable pub parity : ℕ → ℕ
+parity b = (ones b + 1) % 2
+
+-- The frame of a byte: start 0 at bit 0, the byte from bit 1 on, its parity at bit 9, stop 1 at bit 10.
+unfoldable pub frameOf : ℕ → ℕ
+frameOf b = 0 * 2 ^ 0 + b * 2 ^ 1 + parity b * 2 ^ 9 + 1 * 2 ^ 10
+
+-- The bit of a number at a place.
+abbrev pub bit : ℕ → ℕ → ℕ
+bit n i = n / 2 ^ i % 2
+
+-- The byte in a frame: the eight bits from bit 1 on.
+abbrev pub byteOf : ℕ → ℕ
+byteOf n = n / 2 ^ 1 % 2 ^ 8
+
+-- A frame is whole if its start, parity and stop bits are right.
+unfoldable pub whole : ℕ → Bool
+whole n = both (eqb (bit n 0) 0) (both (eqb (bit n 9) (parity (byteOf n))) (eqb (bit n 10) 1))
+
+-- What unpacking gives: a number over 2047 is refused, a broken frame is told from a whole one.
+unfoldable pub unpackedOf : ℕ → Unpacked
+unpackedOf n = pick (ltb 2047 n) TooLarge (pick (whole n) (Byte (byteOf n)) Broken)
+
+-- The number that is given back: 5 for a number over 2047, and otherwise 0 (docs/RULES.md, section 9).
+abbrev pub numberOf : Unpacked → ℕ
+numberOf (Byte b) = 0
+numberOf Broken = 0
+numberOf TooLarge = 5

@@ -1,0 +1,47 @@
+// Frames (docs/RULES.md, section 2): the eleven bits in which a byte goes over the wire, as a number.
+ghost use mathlib.Core.Path.{_≡_};
+ghost use Rattle.frames.specs.Frames.{parity, frameOf, unpackedOf};
+
+// What unpacking a number finds.
+pub enum Unpacked {
+    // A whole frame, and the byte in it.
+    Byte(u8),
+    // A wrong start, parity or stop bit.
+    Broken,
+    // No frame at all: a number over 2047 is refused.
+    TooLarge,
+}
+
+// The bit that makes the number of ones of the byte and itself odd.
+fn parity_of(byte: u8) -> u16
+    ensures { λ r. ⌜ r ≡ parity byte ⌝ }
+{
+    ((u8::count_ones(byte) + 1) % 2) as u16
+}
+
+// The frame of a byte.
+pub fn pack(byte: u8) -> u16
+    ensures { λ r. ⌜ r ≡ frameOf byte ⌝ }
+{
+    ((byte as u16) << 1) | (parity_of(byte) << 9) | (1 << 10)
+}
+
+// The byte of a frame, if the number is a frame and the frame is whole.
+pub fn unpack(frame: u32) -> Unpacked
+    ensures { λ r. ⌜ r ≡ unpackedOf frame ⌝ }
+{
+    if 2047 < frame {
+        return Unpacked::TooLarge;
+    }
+    let byte = ((frame >> 1) & 255) as u8;
+    if frame & 1 != 0 {
+        return Unpacked::Broken;
+    }
+    if (frame >> 9) & 1 != parity_of(byte) as u32 {
+        return Unpacked::Broken;
+    }
+    if (frame >> 10) & 1 != 1 {
+        return Unpacked::Broken;
+    }
+    Unpacked::Byte(byte)
+}

@@ -1,0 +1,96 @@
+-- Answers as the numbers that C sees. Assumes nothing.
+use mathlib.Core.Path.{_≡_, refl, ap, sym, _∙_}
+use mathlib.Core.Bool.{Bool, true, false}
+use mathlib.Core.List.{List}
+use Prim.Native.Nat.{ℕ, _+_, _*_, _≤_, _<_, _^_}
+use native.Mathlib.Omega.{arith}
+use borrow.Author.Tests.{leb-true, eq-eqb, ne-eqb}
+use lib.Dec.{leb, ltb, eqb}
+use lib.ListN.{length}
+use lib.IntN.{ℤ, pos, negsuc}
+use mir.Syntax.{w32}
+use mir.Val.{toZ}
+use mir.ValLaws.{toZ-pos}
+use Rattle.basics.specs.Choice.{pick, both, between}
+use Rattle.codes.specs.declared.Encoded.the-variants.{Written, BadChoice, ShortOutput}
+use Rattle.codes.specs.Encoder.{actionOf, allowed, asked, encodedOf}
+use Rattle.codes.proofs.Lengths.{encode-short}
+use Rattle.reader.specs.declared.Event.{Event}
+use Rattle.reader.specs.declared.Event.the-variants.{More, Pressed, Released, PauseStruck, Wrapping, Overrun, Unknown, BadState, BadSet}
+use Rattle.reader.specs.declared.Answer.{Answer}
+use Rattle.reader.specs.Reader.{readByte, answerOf, numberOf}
+use Rattle.roundtrip.proofs.OnlyItsOwn.{next-is-a-state}
+use Rattle.keydock.specs.Numbers.{minus, eventNumber, keyOf, answerNumber}
+
+-- A number below half the range of an i32 reads as itself.
+pub as-it-is : (n : ℕ) → n < 2 ^ 31 → toZ w32 n ≡ pos n
+as-it-is n h = toZ-pos w32 n h
+
+-- So does a number of bytes that were written: there are at most eight.
+module _ (set key event type mods lock : ℕ) (out : List ℕ) where
+  pub count-small : (count : ℕ) → encodedOf set key event type mods lock out ≡ Written count → count ≤ 8
+  unfolding encodedOf asked
+  count-small count e = go (allowed set key event type mods lock) (ltb (length out) 8) e
+    where
+      go : (a b : Bool) → pick a (pick b ShortOutput (Written (length (asked set key event type mods lock)))) BadChoice ≡ Written count → count ≤ 8
+      go true true e = let z : _≡_ {A = ℕ} 0 1 = cc in omega arith
+      go true false e =
+          let same : length (asked set key event type mods lock) ≡ count = cc in
+          omega (arith, encode-short set key (actionOf event) type mods (eqb lock 1))
+      go false b e = let z : _≡_ {A = ℕ} 0 1 = cc in omega arith
+
+-- There are seven events, numbered from 0.
+pub event-small : (e : Event) → eventNumber e ≤ 6
+event-small More = omega arith
+event-small (Pressed key) = omega arith
+event-small (Released key) = omega arith
+event-small PauseStruck = omega arith
+event-small Wrapping = omega arith
+event-small Overrun = omega arith
+event-small Unknown = omega arith
+event-small BadState = omega arith
+event-small BadSet = omega arith
+
+-- The state that an accepted byte leaves is one of the fifteen.
+pub next-small : (set state byte : ℕ) → byte < 256 → numberOf (answerOf set state byte .event) ≡ 0 → answerOf set state byte .state ≤ 14
+unfolding answerOf
+next-small set state byte b e = go (leb state 14) refl (leb 1 set) refl (leb set 3) refl e
+  where
+    answer : Bool → Bool → Bool → Answer
+    answer x y z = pick x (pick (both y z) (readByte set state byte) (record { state = state; event = BadSet })) (record { state = state; event = BadState })
+
+    go : (x : Bool) → leb state 14 ≡ x → (y : Bool) → leb 1 set ≡ y → (z : Bool) → leb set 3 ≡ z
+        → numberOf (answer x y z .event) ≡ 0 → answer x y z .state ≤ 14
+    go true p true q true r n = next-is-a-state set state byte (leb-true 1 set q) (leb-true set 3 r) (leb-true state 14 p) b
+    go true p true q false r n = let w : _≡_ {A = ℕ} 7 0 = n in omega arith
+    go true p false q z r n = let w : _≡_ {A = ℕ} 7 0 = n in omega arith
+    go false p y q z r n = let w : _≡_ {A = ℕ} 9 0 = n in omega arith
+
+pub next-of : (set state byte : ℕ) (r : Answer) (n : ℕ) → r ≡ answerOf set state byte → byte < 256 → n ≡ numberOf (r .event) → n ≡ 0 → r .state ≤ 14
+next-of set state byte r n e b f z = rw e (next-small set state byte b (rw e at (sym f ∙ z)))
+
+-- An answer is the three numbers in one,
+pub taken : (a r : Answer) (n x k : ℕ) → r ≡ a → n ≡ numberOf (r .event) → n ≡ 0 → x ≡ eventNumber (r .event) → k ≡ keyOf (r .event)
+    → x + 256 * k + 65536 * r .state < 2 ^ 31 → toZ w32 (x + 256 * k + 65536 * r .state) ≡ answerNumber a
+unfolding answerNumber
+taken a r n x k e f z u v h = as-it-is (x + 256 * k + 65536 * r .state) h ∙ rw (u, v, ← e, ← f, z)
+
+-- or minus the number of the refusal.
+pub refused : (a r : Answer) (n m : ℕ) → r ≡ a → n ≡ numberOf (r .event) → (n ≡ 0 → ⊥) → n ≡ m → minus m ≡ answerNumber a
+unfolding answerNumber
+refused a r n m e f z g = rw (← e, ← f, ne-eqb n 0 z, g)
+
+-- A refusal that is not 9 is 7.
+else-7 : (e : Event) → (numberOf e ≡ 0 → ⊥) → (numberOf e ≡ 9 → ⊥) → numberOf e ≡ 7
+else-7 More x y = absurd (x refl)
+else-7 (Pressed key) x y = absurd (x refl)
+else-7 (Released key) x y = absurd (x refl)
+else-7 PauseStruck x y = absurd (x refl)
+else-7 Wrapping x y = absurd (x refl)
+else-7 Overrun x y = absurd (x refl)
+else-7 Unknown x y = absurd (x refl)
+else-7 BadState x y = absurd (y refl)
+else-7 BadSet x y = refl
+
+pub rest : (e : Event) (n : ℕ) → n ≡ numberOf e → (n ≡ 0 → ⊥) → (n ≡ 9 → ⊥) → n ≡ 7
+rest e n f x y = f ∙ else-7 e (λ z. x (f ∙ z)) (λ z. y (f ∙ z))

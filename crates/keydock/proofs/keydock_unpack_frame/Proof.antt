@@ -1,0 +1,45 @@
+-- `keydock_unpack_frame` meets its contract: a byte reads as itself in an i32, and the other two answers have their numbers. Assumes nothing.
+use mathlib.Core.Path.{sym, ap, _∙_}
+use native.Mathlib.Omega.{arith}
+use borrow.Author.Needs.{needs}
+use Rattle.keydock.specs.Numbers.{unpackedNumber}
+use Rattle.keydock.proofs.Numbers.{as-it-is}
+use Rattle.keydock.proofs.keydock_unpack_frame.Statement.{statement}
+use Rattle.keydock.proofs.keydock_unpack_frame.Tie as tie
+
+unpack-requires : tie.Need-unpack-requires
+unpack-requires c κs = search needs
+
+enum-known-answer : tie.Need-enum-known-answer
+enum-known-answer c = search needs
+
+cast-result : tie.Need-cast-result
+cast-result c = search needs
+
+enum-told : tie.Need-enum-told
+enum-told c = search needs
+
+enum-told-2 : tie.Need-enum-told-2
+enum-told-2 c = search needs
+
+returns : tie.Need-returns
+returns c = as-it-is (c .before .answer .given .0 .0) (omega arith) ∙ ap unpackedNumber (sym (c .before .answer .given .1) ∙ c .before .before .before .unpack .ensures)
+
+returns-2 : tie.Need-returns-2
+returns-2 c = ap unpackedNumber (sym (c .enum-told .given .1) ∙ c .before .before .unpack .ensures)
+
+returns-3 : tie.Need-returns-3
+returns-3 c = ap unpackedNumber (sym (c .enum-told2 .given .1) ∙ c .before .before .unpack .ensures)
+
+pub keydock-unpack-frame-spec : {M : Type 1} → statement M
+keydock-unpack-frame-spec =
+    tie.close
+    (tie.spec
+    unpack-requires
+    enum-known-answer
+    cast-result
+    enum-told
+    enum-told-2
+    returns
+    returns-2
+    returns-3)

@@ -1,0 +1,122 @@
+// The C interface (include/keydock.h): frames, a key's codes and the reader on numbers and bytes alone.
+// Nothing is decided here. Each function asks the part that knows and turns its answer into one number.
+use codes::Encoded;
+use frames::Unpacked;
+use reader::Event;
+ghost use mathlib.Core.Path.{_≡_};
+ghost use Rattle.frames.specs.Frames.{frameOf, unpackedOf};
+ghost use Rattle.codes.specs.Encoder.{encodedOf, outputOf};
+ghost use Rattle.reader.specs.Reader.{answerOf, numberOf};
+ghost use Rattle.keydock.specs.Numbers.{unpackedNumber, encodedNumber, eventNumber, keyOf, answerNumber};
+
+// The frame of a byte.
+#[no_mangle]
+pub extern "C" fn keydock_pack_frame(byte: u8) -> u16
+    ensures { λ r. ⌜ r ≡ frameOf byte ⌝ }
+{
+    frames::pack(byte)
+}
+
+// The byte of a frame, or -256 for a broken one, or -5.
+#[no_mangle]
+pub extern "C" fn keydock_unpack_frame(frame: u32) -> i32
+    ensures { λ r. ⌜ r ≡ unpackedNumber (unpackedOf frame) ⌝ }
+{
+    let answer = frames::unpack(frame);
+    match answer {
+        Unpacked::Byte(byte) => byte as i32,
+        Unpacked::Broken => -256,
+        Unpacked::TooLarge => -5,
+    }
+}
+
+// A key's bytes into the lent output: how many, or -7 or -6.
+#[no_mangle]
+pub extern "C" fn keydock_key_codes(
+    set: u32,
+    key: u32,
+    event: u32,
+    kind: u32,
+    modifiers: u32,
+    lock: u32,
+    out: &mut [u8],
+) -> i32
+    ensures answer { λ r. ⌜ r ≡ encodedNumber (encodedOf set key event kind modifiers lock (now (out .entry))) ⌝ }
+    ensures output { λ _. ⌜ now (out .exit) ≡ outputOf set key event kind modifiers lock (now (out .entry)) ⌝ }
+{
+    let answer = codes::encoder::encode(set, key, event, kind, modifiers, lock, out);
+    match answer {
+        Encoded::Written(count) => count as i32,
+        Encoded::BadChoice => -7,
+        Encoded::ShortOutput => -6,
+    }
+}
+
+// The number of an event.
+fn number_of(event: Event) -> u32
+    ensures { λ r. ⌜ r ≡ eventNumber event ⌝ }
+{
+    match event {
+        Event::More => 0,
+        Event::Pressed(_) => 1,
+        Event::Released(_) => 2,
+        Event::PauseStruck => 3,
+        Event::Wrapping => 4,
+        Event::Overrun => 5,
+        Event::Unknown => 6,
+        Event::BadState => 0,
+        Event::BadSet => 0,
+    }
+}
+
+// The key of an event, 0 for none.
+fn key_of(event: Event) -> u8
+    ensures { λ r. ⌜ r ≡ keyOf event ⌝ }
+{
+    match event {
+        Event::More => 0,
+        Event::Pressed(key) => key,
+        Event::Released(key) => key,
+        Event::PauseStruck => 0,
+        Event::Wrapping => 0,
+        Event::Overrun => 0,
+        Event::Unknown => 0,
+        Event::BadState => 0,
+        Event::BadSet => 0,
+    }
+}
+
+// The number of a refusal, 0 for none.
+fn refusal_of(event: Event) -> u8
+    ensures { λ r. ⌜ r ≡ numberOf event ⌝ }
+{
+    match event {
+        Event::More => 0,
+        Event::Pressed(_) => 0,
+        Event::Released(_) => 0,
+        Event::PauseStruck => 0,
+        Event::Wrapping => 0,
+        Event::Overrun => 0,
+        Event::Unknown => 0,
+        Event::BadState => 9,
+        Event::BadSet => 7,
+    }
+}
+
+// One key byte read: event + 256 * key + 65536 * next state, or -9 or -7.
+#[no_mangle]
+pub extern "C" fn keydock_read_byte(set: u32, state: u32, byte: u8) -> i32
+    ensures { λ r. ⌜ r ≡ answerNumber (answerOf set state byte) ⌝ }
+{
+    let answer = reader::read(set, state, byte);
+    let event = answer.event;
+    let refusal = refusal_of(event);
+    if refusal == 0 {
+        let key = key_of(event) as u32;
+        return (number_of(event) + 256 * key + 65536 * answer.state) as i32;
+    }
+    if refusal == 9 {
+        return -9;
+    }
+    -7
+}

@@ -1,0 +1,12 @@
+-- Every marked example comes out as stated. Assumes nothing.
+use mathlib.Core.Path.{_≡_, refl}
+use mathlib.Core.List.{map}
+use lib.Count.{ones, onesIn}
+use Rattle.keys.specs.Keys.{rows, rowOf, codeIn}
+use Rattle.frames.specs.Frames.{frameOf, parity}
+use Rattle.codes.specs.Codes.{encode, bytesOf, formOf, cursorForm, shiftForm, before, after, makeOf, breakOf, prefix, codeOf, sendsRelease}
+use Rattle.marked.specs.Examples.{Example, examples}
+
+pub all-as-stated : map (λ (e : Example). e .given) examples ≡ map (λ (e : Example). e .stated) examples
+unfolding examples frameOf parity ones onesIn encode bytesOf formOf cursorForm shiftForm before after makeOf breakOf prefix codeOf sendsRelease codeIn rowOf rows
+all-as-stated = refl

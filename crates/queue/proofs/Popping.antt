@@ -1,0 +1,67 @@
+-- Popping on the array: every byte moved one place to the front makes the queue without its oldest byte. Assumes nothing.
+use mathlib.Core.Path.{_≡_, refl, sym, ap, ap₂, _∙_}
+use mathlib.Core.Bool.{true}
+use mathlib.Core.List.{List, [], _∷_, _++_, append-assoc}
+use Prim.Native.Nat.{ℕ, zero, suc, _+_, _-_, _≤_, _<_}
+use native.Mathlib.Nat.{le-antisymm}
+use native.Mathlib.Numerals.{add-one}
+use native.Mathlib.Omega.{arith}
+use lib.ListN.{length, take, drop, set, getD, replicate, replicate-append-replicate}
+use Rattle.queue.specs.declared.Queue.{Queue}
+use Rattle.queue.specs.Queues.{waiting, queueOf, tidy}
+use Rattle.queue.proofs.Meaning.{queue, tidy-is, tidy-short, length-waiting}
+
+-- The first i places have what stood one place behind them, the others what they had.
+unfoldable pub moved : List ℕ → ℕ → List ℕ
+moved b i = take i (drop 1 b) ++ drop i b
+
+pub moved-none : (b : List ℕ) → b ≡ moved b 0
+unfolding moved
+moved-none b = refl
+
+one-more : (b : List ℕ) (i : ℕ) → suc i < length b → set (moved b i) i (getD (moved b i) (suc i) 0) ≡ moved b (suc i)
+unfolding moved
+one-more (x ∷ y ∷ b) zero h = refl
+one-more (x ∷ y ∷ b) (suc i) h = ap (λ (r : List ℕ). y ∷ r) (one-more (y ∷ b) i (omega arith))
+one-more [] i h = absurd (omega arith)
+one-more (x ∷ []) i h = absurd (omega arith)
+
+pub moved-more : (b a : List ℕ) (i : ℕ) → a ≡ moved b i → i + 1 < length b → set a i (getD a (i + 1) 0) ≡ moved b (i + 1)
+moved-more b a i e h = rw (e, add-one) (one-more b i (omega arith))
+
+-- When all places but the last are moved, and the last is 0.
+moved-all : (b : List ℕ) (k : ℕ) → length b ≡ suc k → set (moved b k) k 0 ≡ drop 1 b ++ 0 ∷ []
+unfolding moved
+moved-all (x ∷ []) zero e = refl
+moved-all (x ∷ y ∷ b) (suc k) e = ap (λ (r : List ℕ). y ∷ r) (moved-all (y ∷ b) k (omega arith))
+moved-all [] k e = absurd (omega arith)
+moved-all (x ∷ []) (suc k) e = absurd (omega arith)
+moved-all (x ∷ y ∷ b) zero e = absurd (omega arith)
+
+zero-more : (n : ℕ) → _≡_ {A = List ℕ} (replicate n 0 ++ 0 ∷ []) (replicate (n + 1) 0)
+zero-more n = replicate-append-replicate n 1 0
+
+without-oldest : (l : List ℕ) → 1 ≤ length l → length l ≤ 16 → queue (drop 1 (queueOf l .bytes) ++ 0 ∷ []) (length l - 1) ≡ queueOf (drop 1 l)
+unfolding queueOf
+without-oldest [] h k = absurd (omega arith)
+without-oldest (x ∷ l) h k =
+    let zeros : 16 - suc (length l) + 1 ≡ 16 - length l = omega arith in
+    let bytes : l ++ replicate (16 - suc (length l)) 0 ++ 0 ∷ [] ≡ l ++ replicate (16 - length l) 0 = rw (append-assoc, zero-more, zeros) in
+    ap₂ queue bytes (omega arith)
+
+module _ (q : Queue) (t : tidy q ≡ true) (places : length (q .bytes) ≡ 16) where
+  pub popped-empty : q .length ≡ 0 → q ≡ queueOf (drop 1 (waiting q))
+  unfolding waiting
+  popped-empty h =
+      let none : take (q .length) (q .bytes) ≡ [] = ap (λ (n : ℕ). take n (q .bytes)) h in
+      tidy-is q places t ∙ ap queueOf (none ∙ ap (λ (l : List ℕ). drop 1 l) (sym none))
+
+  pub popped-by-moving : (b : List ℕ) (i : ℕ) → (q .length ≡ 0 → ⊥) → i ≤ 15 → 15 ≤ i → b ≡ moved (q .bytes) i
+      → queue (set b 15 0) (q .length - 1) ≡ queueOf (drop 1 (waiting q))
+  unfolding queueOf
+  popped-by-moving b i some low high e =
+      let count : length (waiting q) ≡ q .length = length-waiting q t places in
+      let all : b ≡ moved (q .bytes) 15 = e ∙ ap (λ (n : ℕ). moved (q .bytes) n) (le-antisymm low high) in
+      ap (λ (a : List ℕ). queue a (q .length - 1)) (ap (λ (a : List ℕ). set a 15 0) all ∙ moved-all (q .bytes) 15 places)
+      ∙ ap (λ (x : Queue). queue (drop 1 (x .bytes) ++ 0 ∷ []) (x .length - 1)) (tidy-is q places t)
+      ∙ without-oldest (waiting q) (omega arith) (omega (arith, tidy-short q t))

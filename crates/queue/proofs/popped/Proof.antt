@@ -1,0 +1,77 @@
+-- `queue::popped` meets its contract. The loop's invariant: i is at most 15, and the first i bytes have been moved one place to the front.
+-- The measure is what is left of the 15 places. Assumes nothing.
+use mathlib.Core.Path.{_≡_}
+use Prim.Native.Nat.{_-_, _≤_}
+use native.Mathlib.Omega.{arith}
+use borrow.Author.Needs.{needs}
+use lib.ListN.{length}
+use Rattle.queue.proofs.Popping.{moved, moved-none, moved-more, popped-empty, popped-by-moving}
+use Rattle.queue.proofs.popped.Statement.{statement}
+use Rattle.queue.proofs.popped.Tie as tie
+
+abbrev Inv-loop : tie.InvT-loop
+Inv-loop n e₀ i₀ e i = (i ≤ 15) × (e .bytes ≡ moved (e₀ .bytes) i)
+
+abbrev μ-loop : tie.MeasureT-loop
+μ-loop n e₀ i₀ e i = 15 - i
+
+returns : tie.Need-returns Inv-loop μ-loop
+returns c =
+    let q = c .before .args .q in
+    let places : length (q .bytes) ≡ 16 = search needs in
+    popped-empty q (c .before .pre) places (c .if1 .taken)
+
+loop-holds : tie.Need-loop-holds Inv-loop μ-loop
+loop-holds c = (omega arith, moved-none _)
+
+add-e : tie.Need-add-e Inv-loop μ-loop
+add-e c = omega arith
+
+element-copy-out-e : tie.Need-element-copy-out-e Inv-loop μ-loop
+element-copy-out-e c = omega arith
+
+element-write-e : tie.Need-element-write-e Inv-loop μ-loop
+element-write-e c = omega arith
+
+add-i : tie.Need-add-i Inv-loop μ-loop
+add-i c = omega arith
+
+loop-less : tie.Need-loop-less Inv-loop μ-loop
+loop-less c = omega arith
+
+loop-again : tie.Need-loop-again Inv-loop μ-loop
+loop-again c =
+    let q = c .before .before .before .before .args .q in
+    let l = c .before .before .loop in
+    let places : length (q .bytes) ≡ 16 = search needs in
+    (omega arith, moved-more (q .bytes) (l .e .bytes) (l .i) (l .inv .1) (omega arith))
+
+element-write-e-2 : tie.Need-element-write-e-2 Inv-loop μ-loop
+element-write-e-2 c = search needs
+
+sub-e : tie.Need-sub-e Inv-loop μ-loop
+sub-e c = omega arith
+
+returns-2 : tie.Need-returns-2 Inv-loop μ-loop
+returns-2 c =
+    let q = c .before .before .before .args .q in
+    let places : length (q .bytes) ≡ 16 = search needs in
+    popped-by-moving q (c .before .before .before .pre) places _ (c .before .loop .i) (c .before .before .if1 .left) (omega arith) (omega arith) (c .before .loop .inv .1)
+
+pub popped-spec : {M : Type 1} → statement M
+popped-spec =
+    tie.close
+    (tie.spec
+    Inv-loop
+    μ-loop
+    returns
+    loop-holds
+    add-e
+    element-copy-out-e
+    element-write-e
+    add-i
+    loop-less
+    loop-again
+    element-write-e-2
+    sub-e
+    returns-2)

@@ -1,0 +1,40 @@
+-- Bytes that wait to be read (docs/RULES.md, section 7). Assumes nothing.
+use Prim.Native.Nat.{ℕ, _+_, _-_}
+use mathlib.Core.Bool.{Bool, true, false}
+use mathlib.Core.List.{List, [], _∷_, _++_}
+use lib.Dec.{leb}
+use lib.ListN.{length, take, drop, getD, replicate}
+use Rattle.basics.specs.Choice.{pick, both}
+use Rattle.basics.specs.Lists.{allUpTo}
+use Rattle.codes.specs.declared.Sequence.{Sequence}
+use Rattle.queue.specs.declared.Queue.{Queue}
+
+-- What a queue means: the bytes that wait, oldest first.
+unfoldable pub waiting : Queue → List ℕ
+waiting q = take (q .length) (q .bytes)
+
+-- The queue that holds these bytes: zeros behind them.
+unfoldable pub queueOf : List ℕ → Queue
+queueOf bytes = record { bytes = bytes ++ replicate (16 - length bytes) 0; length = length bytes }
+
+-- The range of a queue: at most 16 bytes wait, and zeros stand behind them. So its meaning fixes it.
+unfoldable pub tidy : Queue → Bool
+tidy q = both (leb (q .length) 16) (allUpTo 0 (drop (q .length) (q .bytes)))
+
+-- The bytes of a sequence.
+unfoldable pub contents : Sequence → List ℕ
+contents s = take (s .length) (s .bytes)
+
+-- There is room for so many bytes more.
+abbrev pub hasRoom : List ℕ → ℕ → Bool
+hasRoom bytes more = leb (length bytes + more) 16
+
+-- A list with its last entry replaced.
+unfoldable pub lastReplaced : ℕ → List ℕ → List ℕ
+lastReplaced mark [] = []
+lastReplaced mark (x ∷ []) = mark ∷ []
+lastReplaced mark (x ∷ y ∷ rest) = x ∷ lastReplaced mark (y ∷ rest)
+
+-- A sequence goes in whole; if it does not fit, the last byte is replaced by the overrun mark.
+unfoldable pub pushedTo : ℕ → List ℕ → List ℕ → List ℕ
+pushedTo mark bytes sequence = pick (hasRoom bytes (length sequence)) (bytes ++ sequence) (lastReplaced mark bytes)

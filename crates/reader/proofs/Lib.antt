@@ -1,0 +1,4 @@
+pub mod Hearing
+pub mod Unreached
+pub mod Answering
+pub mod Presses

@@ -1,0 +1,121 @@
+-- A key is found only in its own code: bytes that belong to no sequence give no key, whatever the state. Assumes nothing.
+use mathlib.Core.Path.{_≡_, refl, sym, ap, subst}
+use mathlib.Core.Bool.{Bool, true, false}
+use mathlib.Core.Logic.{_⊎_, inl, inr}
+use mathlib.Core.List.{List, [], _∷_, _++_}
+use Prim.Native.Nat.{ℕ, zero, suc, _<_, _≤_}
+use native.Mathlib.Nat.{not-suc-le-zero}
+use native.Mathlib.Omega.{arith}
+use lib.Dec.{T, eqb, leb, leb→le}
+use Rattle.basics.specs.Choice.{pick, both, either, between}
+use Rattle.basics.proofs.Tables.{allBelow, below, both-left, both-right}
+use Rattle.keys.specs.Keys.{rows, rowOf, codeIn}
+use Rattle.lookup.specs.Lookup.{keyWith, firstWith}
+use Rattle.codes.specs.declared.Form.the-variants.{Plain, Other}
+use Rattle.codes.specs.Codes.{makeOf, breakOf, prefix, codeOf}
+use Rattle.reader.specs.declared.Event.{Event}
+use Rattle.reader.specs.declared.Event.the-variants.{More, Pressed, Released, PauseStruck, Wrapping, Overrun, Unknown, BadState, BadSet}
+use Rattle.reader.specs.declared.Answer.{Answer}
+use Rattle.reader.specs.States.{begun, seen}
+use Rattle.reader.specs.Reader.{readByte, inSet1, inSet2, inSet3, heard}
+use Rattle.roundtrip.specs.OwnCode.{GoesDown, ComesUp}
+use Rattle.roundtrip.proofs.Lists.{same, same-is-equal}
+
+-- A number and a list that pass these tests are a key and its code.
+isCode : ℕ → List ℕ → List ℕ → List ℕ → Bool
+isCode key bytes plain other = both (between 1 104 key) (either (same bytes plain) (same bytes other))
+
+-- What an answer may say of all the bytes read so far.
+right : ℕ → List ℕ → ℕ → Event → Bool
+right set bytes next More = same bytes (seen next)
+right set bytes next (Pressed key) =
+    both (eqb next 0) (isCode key bytes (makeOf (codeOf set key Plain)) (makeOf (codeOf set key Other)))
+right set bytes next (Released key) =
+    both (eqb next 0) (isCode key bytes (breakOf set (codeOf set key Plain)) (breakOf set (codeOf set key Other)))
+right set bytes next PauseStruck = eqb next 0
+right set bytes next Wrapping = eqb next 0
+right set bytes next Overrun = eqb next 0
+right set bytes next Unknown = eqb next 0
+right set bytes next BadState = false
+right set bytes next BadSet = false
+
+rightAt : ℕ → ℕ → ℕ → Bool
+rightAt set state byte =
+    both (leb (readByte set state byte .state) 14)
+    (right set (seen state ++ byte ∷ []) (readByte set state byte .state) (readByte set state byte .event))
+
+everywhere : ℕ → Bool
+everywhere set = allBelow (λ state. allBelow (rightAt set state) 256) 15
+
+in-set-1 : T (everywhere 1)
+unfolding everywhere rightAt right isCode begun seen rows rowOf codeIn keyWith firstWith makeOf breakOf prefix codeOf readByte inSet1 heard
+in-set-1 = tt
+
+in-set-2 : T (everywhere 2)
+unfolding everywhere rightAt right isCode begun seen rows rowOf codeIn keyWith firstWith makeOf breakOf prefix codeOf readByte inSet2 heard
+in-set-2 = tt
+
+in-set-3 : T (everywhere 3)
+unfolding everywhere rightAt right isCode begun seen rows rowOf codeIn keyWith firstWith makeOf breakOf prefix codeOf readByte inSet3
+in-set-3 = tt
+
+at : (set state byte : ℕ) → 1 ≤ set → set ≤ 3 → state ≤ 14 → byte < 256 → T (rightAt set state byte)
+unfolding everywhere
+at set state byte low high s b = each set low high
+  where
+    from : (n : ℕ) → T (everywhere n) → T (rightAt n state byte)
+    from n t = below (rightAt n state) 256 (below (λ st. allBelow (rightAt n st) 256) 15 t state (omega arith)) byte b
+
+    each : (n : ℕ) → 1 ≤ n → n ≤ 3 → T (rightAt n state byte)
+    each zero l h = absurd (not-suc-le-zero l)
+    each (suc zero) l h = from 1 in-set-1
+    each (suc (suc zero)) l h = from 2 in-set-2
+    each (suc (suc (suc zero))) l h = from 3 in-set-3
+    each (suc (suc (suc (suc n)))) l h = absurd (omega arith)
+
+code-of : (key : ℕ) (bytes plain other : List ℕ) → T (isCode key bytes plain other)
+    → (1 ≤ key) × (key ≤ 104) × ((bytes ≡ plain) ⊎ (bytes ≡ other))
+unfolding isCode
+code-of key bytes plain other t = (
+  leb→le 1 key (both-left (leb 1 key) (leb key 104) range),
+  leb→le key 104 (both-right (leb 1 key) (leb key 104) range),
+  go (same bytes plain) refl (both-right (between 1 104 key) (either (same bytes plain) (same bytes other)) t),
+)
+  where
+    range : T (between 1 104 key)
+    range = both-left (between 1 104 key) (either (same bytes plain) (same bytes other)) t
+
+    go : (b : Bool) → same bytes plain ≡ b → T (either b (same bytes other)) → (bytes ≡ plain) ⊎ (bytes ≡ other)
+    go true e h = inl (same-is-equal bytes plain (rw e tt))
+    go false e h = inr (same-is-equal bytes other h)
+
+module _ (set state byte : ℕ) (low : 1 ≤ set) (high : set ≤ 3) (s : state ≤ 14) (b : byte < 256) where
+  told : (event : Event) → readByte set state byte .event ≡ event → T (right set (seen state ++ byte ∷ []) (readByte set state byte .state) event)
+  unfolding rightAt
+  told event e = rw e at (both-right (leb (readByte set state byte .state) 14) _ (at set state byte low high s b))
+
+  -- The next state is one of the fifteen.
+  pub next-is-a-state : readByte set state byte .state ≤ 14
+  unfolding rightAt
+  next-is-a-state = leb→le (readByte set state byte .state) 14 (both-left (leb (readByte set state byte .state) 14) _ (at set state byte low high s b))
+
+  -- A press is answered only at the last byte of the key's own code.
+  pub pressed-by-its-code : (key : ℕ) → readByte set state byte .event ≡ Pressed key → GoesDown set key (seen state ++ byte ∷ [])
+  unfolding right
+  pressed-by-its-code key e =
+      let t = code-of key (seen state ++ byte ∷ []) (makeOf (codeOf set key Plain)) (makeOf (codeOf set key Other))
+      (both-right (eqb (readByte set state byte .state) 0) _ (told (Pressed key) e)) in
+      record { low = t .0; high = t .1; code = t .2 }
+
+  -- So is a release.
+  pub released-by-its-code : (key : ℕ) → readByte set state byte .event ≡ Released key → ComesUp set key (seen state ++ byte ∷ [])
+  unfolding right
+  released-by-its-code key e =
+      let t = code-of key (seen state ++ byte ∷ []) (breakOf set (codeOf set key Plain)) (breakOf set (codeOf set key Other))
+      (both-right (eqb (readByte set state byte .state) 0) _ (told (Released key) e)) in
+      record { low = t .0; high = t .1; code = t .2 }
+
+  -- Where more is needed, the next state stands for exactly the bytes read so far.
+  pub state-is-what-was-read : readByte set state byte .event ≡ More → seen (readByte set state byte .state) ≡ seen state ++ byte ∷ []
+  unfolding right
+  state-is-what-was-read e = sym (same-is-equal (seen state ++ byte ∷ []) (seen (readByte set state byte .state)) (told More e))

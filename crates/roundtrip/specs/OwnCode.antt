@@ -1,0 +1,19 @@
+-- The code of a key, as bytes (docs/RULES.md, sections 3 and 4). Assumes nothing.
+use mathlib.Core.Path.{_≡_}
+use mathlib.Core.List.{List}
+use mathlib.Core.Logic.{_⊎_}
+use Prim.Native.Nat.{ℕ, _≤_}
+use Rattle.codes.specs.declared.Form.the-variants.{Plain, Other}
+use Rattle.codes.specs.Codes.{makeOf, breakOf, codeOf}
+
+-- These bytes are what a key sends in a set when it goes down, wrapping apart: its code, or that of its other form.
+pub record GoesDown (set key : ℕ) (bytes : List ℕ) : Type 0 where
+  pub low : 1 ≤ key
+  pub high : key ≤ 104
+  pub code : (bytes ≡ makeOf (codeOf set key Plain)) ⊎ (bytes ≡ makeOf (codeOf set key Other))
+
+-- The same when it comes up.
+pub record ComesUp (set key : ℕ) (bytes : List ℕ) : Type 0 where
+  pub low : 1 ≤ key
+  pub high : key ≤ 104
+  pub code : (bytes ≡ breakOf set (codeOf set key Plain)) ⊎ (bytes ≡ breakOf set (codeOf set key Other))

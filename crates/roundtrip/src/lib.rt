@@ -1,0 +1,1 @@
+// Demand 2 as theorems: see specs/ and proofs/.
