@@ -1,10 +1,15 @@
-# make        builds the service program and shows what a key sends
+# make        builds the bench and runs a short session on it
+# make bench  leaves the bench in build/bin
 # make test   proves and tests everything
 # make lib    puts the static library and its header into build/lib
-.PHONY: run test lib clean
+.PHONY: run bench test lib clean
 
-run:
-	@scripts/service key 2 65 press lshift rshift
+run: bench
+	@echo "The session of crates/bench/stdin, line by line, prints:"
+	@build/bin/bench <crates/bench/stdin
+
+bench:
+	@scripts/bench
 
 test:
 	@scripts/test

@@ -2,3 +2,4 @@ pub mod Tables
 pub mod Maps
 pub mod Flags
 pub mod Limits
+pub mod Once

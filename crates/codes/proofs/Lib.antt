@@ -5,3 +5,4 @@ pub mod Lengths
 pub mod PlainKeys
 pub mod Writing
 pub mod Encoding
+pub mod Once

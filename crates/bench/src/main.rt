@@ -1,0 +1,163 @@
+// The bench (docs/RULES.md, section 12): lines from standard input go to a dock, and what it answers goes to standard output.
+// What a line does is proved in the crate lines; here text is read, cut into lines, and written.
+use libc::STDIN_FILENO;
+use libc::STDOUT_FILENO;
+use lines::Printed;
+use record::Dock;
+ghost use mathlib.Core.Path.{_≡_};
+ghost use Prim.Native.Nat.{_≤_, _+_};
+ghost use lib.ListN.{length};
+
+// What is left of a text after its whole lines were run: the dock, the characters used, and the characters to be printed.
+struct Ran {
+    dock: Dock,
+    used: usize,
+    written: usize,
+}
+
+// The dock and the characters kept of an unfinished line after what was at hand is used up, and whether more may come.
+struct Turn {
+    dock: Dock,
+    kept: usize,
+    going: bool,
+}
+
+// Puts what a line prints at a place of the output, and gives the place behind it.
+fn put(out: &mut [u8], at: usize, printed: Printed) -> usize
+    requires { ⌜ at + 4 ≤ length (now out) ⌝ }
+    ensures { λ r. ⌜ r ≤ at + 4 ⌝ }
+{
+    match printed {
+        Printed::Silence => at,
+        Printed::FrameLine(frame) => {
+            out[at] = text::digits::digit_of((frame / 256 % 16) as u8);
+            out[at + 1] = text::digits::digit_of((frame / 16 % 16) as u8);
+            out[at + 2] = text::digits::digit_of((frame % 16) as u8);
+            out[at + 3] = b'\n';
+            at + 4
+        }
+        Printed::RefusalLine(number) => {
+            out[at] = b'!';
+            out[at + 1] = text::digits::digit_of(number % 16);
+            out[at + 2] = b'\n';
+            at + 3
+        }
+    }
+}
+
+// Runs the whole lines of a text. Each takes at least its newline and prints at most four characters, so the output has room.
+fn run(d: Dock, text: &[u8], out: &mut [u8]) -> Ran
+    requires { ⌜ (length (now text) ≤ 16384) × (length (now out) ≡ 65536) ⌝ }
+    ensures { λ r. ⌜ (r .used ≤ length (now (text .entry))) × (r .written ≤ 65536) ⌝ }
+{
+    let mut dock = d;
+    let mut at: usize = 0;
+    let mut written: usize = 0;
+    let mut end = text::kinds::end_of(text, 0);
+    while end < text.len() {
+        let r = lines::step(dock, &text[at..end]);
+        let printed = r.printed;
+        dock = r.dock;
+        written = put(out, written, printed);
+        at = end + 1;
+        end = text::kinds::end_of(text, at);
+    }
+    Ran {
+        dock,
+        used: at,
+        written,
+    }
+}
+
+// A length, or 289: of a line that is too long already just enough is kept to show it.
+fn shortened(n: usize) -> usize
+    ensures { λ r. ⌜ (r ≤ n) × (r ≤ 289) ⌝ }
+{
+    if 289 < n {
+        return 289;
+    }
+    n
+}
+
+// Moves the line that is not at its end to the front, and gives the number of characters kept.
+fn keep(input: &mut [u8], from: usize, end: usize) -> usize
+    requires { ⌜ (from ≤ end) × (end ≤ length (now input)) ⌝ }
+    ensures { λ r. ⌜ r ≤ 289 ⌝ }
+{
+    let n = shortened(end - from);
+    let mut i: usize = 0;
+    while i < n {
+        input[i] = input[from + i];
+        i += 1;
+    }
+    n
+}
+
+// The last line, if it has no newline and is not empty.
+fn finish(d: Dock, line: &[u8], out: &mut [u8])
+    requires { ⌜ length (now out) ≡ 65536 ⌝ }
+{
+    if line.len() == 0 {
+        return;
+    }
+    let r = lines::step(d, line);
+    let printed = r.printed;
+    let n = put(out, 0, printed);
+    io::write_all(STDOUT_FILENO, &out[..n]);
+}
+
+// Runs what is at hand: the characters kept, and those that came after them.
+fn work(d: Dock, input: &mut [u8], out: &mut [u8], end: usize) -> Turn
+    requires { ⌜ (end ≤ 16384) × (length (now input) ≡ 16384) × (length (now out) ≡ 65536) ⌝ }
+    ensures { λ r. ⌜ r .kept ≤ 289 ⌝ }
+{
+    let r = run(d, &input[..end], out);
+    let dock = r.dock;
+    let used = r.used;
+    let written = r.written;
+    let going = io::write_all(STDOUT_FILENO, &out[..written]);
+    let kept = keep(input, used, end);
+    Turn { dock, kept, going }
+}
+
+// Reads once, and runs what came. Where nothing comes any more, the last line is run.
+fn next(d: Dock, input: &mut [u8], out: &mut [u8], kept: usize) -> Turn
+    requires { ⌜ (kept ≤ 289) × (length (now input) ≡ 16384) × (length (now out) ≡ 65536) ⌝ }
+    ensures { λ r. ⌜ r .kept ≤ 289 ⌝ }
+{
+    let got = libc::read(STDIN_FILENO, &mut input[kept..]);
+    if got <= 0 {
+        finish(d, &input[..kept], out);
+        return Turn {
+            dock: d,
+            kept: 0,
+            going: false,
+        };
+    }
+    let end = kept + io::count(got, &input[kept..]);
+    work(d, input, out, end)
+}
+
+// Turn after turn. A proved loop has to end, and nothing says that input does: the turns are more than any run uses up.
+fn serve(d: Dock, input: &mut [u8], out: &mut [u8])
+    requires { ⌜ (length (now input) ≡ 16384) × (length (now out) ≡ 65536) ⌝ }
+{
+    let mut dock = d;
+    let mut kept: usize = 0;
+    let mut turns = u64::MAX;
+    while 0 < turns {
+        let t = next(dock, input, out, kept);
+        if !t.going {
+            return;
+        }
+        dock = t.dock;
+        kept = t.kept;
+        turns -= 1;
+    }
+}
+
+fn main() {
+    let mut input = [0u8; 16384];
+    let mut out = [0u8; 65536];
+    serve(record::power::power_on(), &mut input, &mut out);
+}

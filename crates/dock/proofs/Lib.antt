@@ -1,0 +1,6 @@
+pub mod InRange
+pub mod Handing
+pub mod Scanning
+pub mod Reading
+pub mod Swapping
+pub mod Framing

@@ -1,0 +1,60 @@
+-- A read as the code meets it, test by test. Assumes nothing.
+use mathlib.Core.Path.{_≡_, refl, sym}
+use mathlib.Core.Bool.{Bool, true, false}
+use mathlib.Core.List.{List, [], _∷_}
+use Prim.Native.Nat.{ℕ, zero, suc, _≤_}
+use native.Mathlib.Omega.{arith}
+use borrow.Author.Tests.{eq-eqb, ne-eqb}
+use lib.ListN.{length, getD, take}
+use Rattle.queue.specs.declared.Queue.{Queue}
+use Rattle.queue.specs.Queues.{waiting}
+use Rattle.record.specs.declared.Dock.{Dock}
+use Rattle.record.specs.Parts.{withKeys, withReplies, withQueue}
+use Rattle.record.specs.Range.{inRange}
+use Rattle.dock.specs.declared.Given.the-variants.{Nothing, Reply, KeyByte, Refused}
+use Rattle.dock.specs.declared.Taken.{Taken}
+use Rattle.dock.specs.Answers.{taken}
+use Rattle.dock.specs.Closing.{closing}
+use Rattle.dock.specs.Read.{oldest, behindIt, remembering, replyTaken, keyByteTaken, read, readOf}
+
+-- The oldest byte of a queue stands in front.
+front : (n : ℕ) (l : List ℕ) → 1 ≤ n → getD l 0 0 ≡ getD (take n l) 0 0
+front zero l h = absurd (omega arith)
+front (suc n) [] h = refl
+front (suc n) (x ∷ l) h = refl
+
+pub oldest-in-front : (q : Queue) → 1 ≤ q .length → getD (q .bytes) 0 0 ≡ oldest q
+unfolding waiting
+oldest-in-front q h = front (q .length) (q .bytes) h
+
+-- A byte was given.
+module _ (d : Dock) (rest : Queue) (byte : ℕ) (kept r : Dock) (i : r ≡ closing kept) where
+  pub reply-given : byte ≡ oldest (d .replies) → rest ≡ behindIt (d .replies) → kept ≡ remembering (withReplies d rest) byte
+      → taken (Reply byte) r ≡ replyTaken d
+  unfolding replyTaken
+  reply-given b e k = rw (i, k, e, b)
+
+  pub key-byte-given : byte ≡ oldest (d .keys .queue) → rest ≡ behindIt (d .keys .queue)
+      → kept ≡ remembering (withKeys d (withQueue (d .keys) rest)) byte → taken (KeyByte byte) r ≡ keyByteTaken d
+  unfolding keyByteTaken
+  key-byte-given b e k = rw (i, k, e, b)
+
+-- The whole call.
+module _ (d : Dock) (good : Bool) (e : good ≡ inRange d) where
+  pub read-refused : good ≡ false → taken Refused d ≡ readOf d
+  unfolding readOf
+  read-refused f = simp (sym e, f)
+
+  module _ (f : good ≡ true) where
+    pub read-reply : (d .replies .length ≡ 0 → ⊥) → (r : Taken) → r ≡ replyTaken d → r ≡ readOf d
+    unfolding readOf read
+    read-reply n r i = simp (sym e, f, ne-eqb (d .replies .length) 0 n, i)
+
+    module _ (n : d .replies .length ≡ 0) where
+      pub read-key-byte : (d .keys .queue .length ≡ 0 → ⊥) → (r : Taken) → r ≡ keyByteTaken d → r ≡ readOf d
+      unfolding readOf read
+      read-key-byte m r i = simp (sym e, f, eq-eqb (d .replies .length) 0 n, ne-eqb (d .keys .queue .length) 0 m, i)
+
+      pub read-nothing : d .keys .queue .length ≡ 0 → (r : Dock) → r ≡ closing d → taken Nothing r ≡ readOf d
+      unfolding readOf read
+      read-nothing m r i = simp (sym e, f, eq-eqb (d .replies .length) 0 n, eq-eqb (d .keys .queue .length) 0 m, i)

@@ -1,0 +1,83 @@
+-- A scan as the code meets it, test by test. Assumes nothing.
+use mathlib.Core.Path.{_≡_, sym, _∙_}
+use mathlib.Core.Bool.{Bool, true, false, not, _&&_, and-assoc}
+use mathlib.Core.List.{List}
+use Prim.Native.Nat.{ℕ, zero, suc, _+_}
+use native.Mathlib.Nat.{zero-add}
+use native.Mathlib.Omega.{arith}
+use borrow.Author.Tests.{eq-eqb, ne-eqb}
+use lib.Dec.{eqb}
+use lib.ListN.{length}
+use Rattle.basics.specs.Choice.{both}
+use Rattle.contacts.specs.declared.Contacts.{Contacts}
+use Rattle.contacts.specs.Phantom.{isPhantom}
+use Rattle.contacts.specs.Counts.{countedOf}
+use Rattle.keying.specs.Moves.{turnsTo}
+use Rattle.keying.specs.Repeat.{ticked, repeated}
+use Rattle.record.specs.declared.Keys.{Keys}
+use Rattle.record.specs.declared.Dock.{Dock}
+use Rattle.record.specs.Parts.{withContacts, withKeys}
+use Rattle.record.specs.Range.{inRange}
+use Rattle.dock.specs.declared.Answer.the-variants.{Accepted, ScanLength, BadRecord}
+use Rattle.dock.specs.Answers.{answered}
+use Rattle.dock.specs.Closing.{closing}
+use Rattle.dock.specs.Scan.{listening, counting, changed, repeating, heardScan, scanned, scanOf}
+
+-- Are scans listened to: the three tests, joined as the code joins them.
+pub joined-listening : (d : Dock) → (d .scanning && eqb (d .waiting) 0 && not (d .handover)) ≡ listening d
+unfolding listening
+joined-listening d = and-assoc (d .scanning) (eqb (d .waiting) 0) (not (d .handover))
+
+-- A counted scan, part by part.
+pub counted-by-parts : (d : Dock) (scan : List ℕ) (after : Contacts) (keys : Keys) → after ≡ countedOf (d .contacts) scan
+    → keys ≡ turnsTo 144 (d .mode) (d .types) (d .map) (d .contacts .closed) (after .closed) (d .keys)
+    → withKeys (withContacts d after) keys ≡ counting d scan
+unfolding counting
+counted-by-parts d scan after keys e f = rw (f, e)
+
+-- No reply and no key byte waits: their number is 0.
+none-wait : (a b : ℕ) → eqb (a + b) 0 ≡ both (eqb a 0) (eqb b 0)
+none-wait zero b = rw zero-add
+none-wait (suc a) b = rw (ne-eqb (suc a) 0 (λ e. omega arith), ne-eqb (suc a + b) 0 (λ e. omega arith))
+
+pub repeated-when-quiet : (d : Dock) (keys : Keys)
+    → keys ≡ repeated (d .keys) (d .mode) (d .types) (eqb (d .replies .length + d .keys .queue .length) 0)
+    → withKeys d keys ≡ repeating d
+unfolding repeating
+repeated-when-quiet d keys e = rw (e, none-wait)
+
+-- A scan that is listened to, after its changes.
+module _ (d : Dock) (scan : List ℕ) (keys : Keys) (t : keys ≡ ticked (d .keys)) (phantom : Bool) (p : phantom ≡ isPhantom scan) (next : Dock) where
+  pub heard-believed : phantom ≡ false → (r : Dock) → r ≡ counting (withKeys d keys) scan → next ≡ r
+      → next ≡ changed (withKeys d (ticked (d .keys))) scan
+  unfolding changed
+  heard-believed f r e i = rw (← p, f, ← t) (i ∙ e)
+
+  pub heard-phantom : phantom ≡ true → next ≡ withKeys d keys → next ≡ changed (withKeys d (ticked (d .keys))) scan
+  unfolding changed
+  heard-phantom y i = rw (← p, y, ← t) i
+
+pub heard-whole : (d : Dock) (scan : List ℕ) (next r : Dock) → next ≡ changed (withKeys d (ticked (d .keys))) scan → r ≡ repeating next
+    → r ≡ heardScan d scan
+unfolding heardScan
+heard-whole d scan next r e i = rw e at i
+
+-- The whole call.
+module _ (d : Dock) (scan : List ℕ) (good : Bool) (e : good ≡ inRange d) where
+  pub scan-refused : good ≡ false → answered BadRecord d ≡ scanOf d scan
+  unfolding scanOf
+  scan-refused f = simp (sym e, f)
+
+  module _ (f : good ≡ true) where
+    pub scan-wrong-length : (length scan ≡ 18 → ⊥) → answered ScanLength d ≡ scanOf d scan
+    unfolding scanOf
+    scan-wrong-length n = simp (sym e, f, ne-eqb (length scan) 18 n)
+
+    module _ (l : length scan ≡ 18) (listens : Bool) (g : listens ≡ listening d) (r : Dock) where
+      pub scan-not-heard : listens ≡ false → r ≡ closing d → answered Accepted r ≡ scanOf d scan
+      unfolding scanOf scanned
+      scan-not-heard n i = simp (sym e, f, eq-eqb (length scan) 18 l, sym g, n, i)
+
+      pub scan-heard : listens ≡ true → r ≡ heardScan d scan → answered Accepted r ≡ scanOf d scan
+      unfolding scanOf scanned
+      scan-heard y i = simp (sym e, f, eq-eqb (length scan) 18 l, sym g, y, i)

@@ -1,0 +1,54 @@
+-- A swap as the code meets it, test by test. Assumes nothing.
+use mathlib.Core.Path.{_≡_, sym}
+use mathlib.Core.Bool.{Bool, true, false}
+use mathlib.Core.List.{List}
+use Prim.Native.Nat.{ℕ}
+use borrow.Author.Tests.{eq-eqb, ne-eqb}
+use lib.ListN.{length}
+use Rattle.basics.specs.Lists.{allUpTo}
+use Rattle.maps.specs.Maps.{hasDouble}
+use Rattle.record.specs.declared.Dock.{Dock}
+use Rattle.record.specs.Parts.{withMap}
+use Rattle.record.specs.Range.{inRange}
+use Rattle.dock.specs.declared.Answer.the-variants.{Accepted, MapLength, MapEntry, MapDouble, BadRecord}
+use Rattle.dock.specs.Answers.{answered}
+use Rattle.dock.specs.Closing.{closing}
+use Rattle.dock.specs.Swap.{opened, remapped, swapped, swapOf}
+
+-- The record with the map.
+module _ (d : Dock) (map : List ℕ) where
+  pub second-swap : d .handover ≡ true → withMap d map ≡ remapped d map
+  unfolding remapped
+  second-swap t = rw t
+
+  pub first-swap : d .handover ≡ false → (r : Dock) → r ≡ opened d map → r ≡ remapped d map
+  unfolding remapped
+  first-swap f r e = rw (e, f)
+
+-- The whole call.
+module _ (d : Dock) (map : List ℕ) (good : Bool) (e : good ≡ inRange d) where
+  pub swap-refused : good ≡ false → answered BadRecord d ≡ swapOf d map
+  unfolding swapOf
+  swap-refused f = simp (sym e, f)
+
+  module _ (f : good ≡ true) where
+    pub swap-wrong-length : (length map ≡ 144 → ⊥) → answered MapLength d ≡ swapOf d map
+    unfolding swapOf
+    swap-wrong-length n = simp (sym e, f, ne-eqb (length map) 144 n)
+
+    module _ (l : length map ≡ 144) (copy : List ℕ) (c : copy ≡ map) (small : Bool) (g : small ≡ allUpTo 104 copy) where
+      long : length copy ≡ 144
+      long = rw c l
+
+      pub swap-wrong-entry : small ≡ false → answered MapEntry d ≡ swapOf d map
+      unfolding swapOf
+      swap-wrong-entry n = simp (sym e, f, eq-eqb (length copy) 144 long, sym c, sym g, n)
+
+      module _ (y : small ≡ true) (double : Bool) (h : double ≡ hasDouble copy) where
+        pub swap-double : double ≡ true → answered MapDouble d ≡ swapOf d map
+        unfolding swapOf
+        swap-double t = simp (sym e, f, eq-eqb (length copy) 144 long, sym c, sym g, y, sym h, t)
+
+        pub swap-taken : double ≡ false → (next r : Dock) → next ≡ remapped d copy → r ≡ closing next → answered Accepted r ≡ swapOf d map
+        unfolding swapOf swapped
+        swap-taken n next r i j = simp (sym e, f, eq-eqb (length copy) 144 long, sym c, sym g, y, sym h, n, j, i)

@@ -1,0 +1,30 @@
+-- `dock::read::take_reply` meets its contract: the oldest reply stands in front, and what is left is in its range. Assumes nothing.
+use borrow.Author.Needs.{needs}
+use Rattle.record.proofs.Ranges.{in-range-replies}
+use Rattle.dock.proofs.InRange.{reply-leaves-range}
+use Rattle.dock.proofs.Reading.{oldest-in-front, reply-given}
+use Rattle.dock.proofs.read.take_reply.Statement.{statement}
+use Rattle.dock.proofs.read.take_reply.Tie as tie
+
+element-copy-out-byte : tie.Need-element-copy-out-byte
+element-copy-out-byte c = search needs
+
+popped-requires : tie.Need-popped-requires
+popped-requires c κs = in-range-replies _ (c .before .before .pre .0)
+
+remember-requires : tie.Need-remember-requires
+remember-requires c κs = search needs
+
+close-requires : tie.Need-close-requires
+close-requires c κs =
+    reply-leaves-range _ (c .before .before .before .before .pre .0) _ _ _ (c .before .popped .ensures) (c .remember .ensures)
+
+returns : tie.Need-returns
+returns c =
+    reply-given _ _ _ _ _ (c .close .ensures) (oldest-in-front _ (c .before .before .before .before .before .pre .1))
+    (c .before .before .popped .ensures) (c .before .remember .ensures)
+
+pub take-reply-spec : {M : Type 1} → statement M
+take-reply-spec =
+    tie.close
+    (tie.spec element-copy-out-byte popped-requires remember-requires close-requires returns)

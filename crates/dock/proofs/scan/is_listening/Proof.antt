@@ -1,0 +1,10 @@
+-- `dock::scan::is_listening` meets its contract: its tests are those of the definition. Assumes nothing.
+use Rattle.dock.proofs.Scanning.{joined-listening}
+use Rattle.dock.proofs.scan.is_listening.Statement.{statement}
+use Rattle.dock.proofs.scan.is_listening.Tie as tie
+
+returns : tie.Need-returns
+returns c = joined-listening _
+
+pub is-listening-spec : {M : Type 1} → statement M
+is-listening-spec = tie.close (tie.spec returns)

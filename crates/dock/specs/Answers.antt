@@ -1,0 +1,34 @@
+-- The numbers that calls give back (docs/RULES.md, section 9). Assumes nothing.
+use Prim.Native.Nat.{ℕ}
+use Rattle.record.specs.declared.Dock.{Dock}
+use Rattle.dock.specs.declared.Answer.{Answer}
+use Rattle.dock.specs.declared.Answer.the-variants.{Accepted, ScanLength, MapLength, MapEntry, MapDouble, FrameNumber, BadRecord}
+use Rattle.dock.specs.declared.Answered.{Answered}
+use Rattle.dock.specs.declared.Given.{Given}
+use Rattle.dock.specs.declared.Given.the-variants.{Nothing, Reply, KeyByte, Refused}
+use Rattle.dock.specs.declared.Taken.{Taken}
+
+-- The number of an answer.
+abbrev pub numberOf : Answer → ℕ
+numberOf Accepted = 0
+numberOf ScanLength = 1
+numberOf MapLength = 2
+numberOf MapEntry = 3
+numberOf MapDouble = 4
+numberOf FrameNumber = 5
+numberOf BadRecord = 9
+
+-- The number of a read: only a bad record is refused.
+abbrev pub readNumberOf : Given → ℕ
+readNumberOf Nothing = 0
+readNumberOf (Reply byte) = 0
+readNumberOf (KeyByte byte) = 0
+readNumberOf Refused = 9
+
+-- An answer beside the record.
+abbrev pub answered : Answer → Dock → Answered
+answered answer dock = record { answer = answer; dock = dock }
+
+-- What a read gave beside the record.
+abbrev pub taken : Given → Dock → Taken
+taken given dock = record { given = given; dock = dock }

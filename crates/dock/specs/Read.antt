@@ -1,0 +1,47 @@
+-- A read (docs/RULES.md, section 7). Assumes nothing.
+use Prim.Native.Nat.{ℕ}
+use lib.Dec.{eqb}
+use lib.ListN.{getD, drop}
+use Rattle.basics.specs.Choice.{pick}
+use Rattle.queue.specs.declared.Queue.{Queue}
+use Rattle.queue.specs.Queues.{waiting, queueOf}
+use Rattle.record.specs.declared.Dock.{Dock}
+use Rattle.record.specs.Parts.{withKeys, withReplies, withGiven, withQueue}
+use Rattle.record.specs.Range.{inRange}
+use Rattle.dock.specs.declared.Given.the-variants.{Nothing, Reply, KeyByte, Refused}
+use Rattle.dock.specs.declared.Taken.{Taken}
+use Rattle.dock.specs.Answers.{taken}
+use Rattle.dock.specs.Closing.{closing}
+
+-- The oldest byte of a queue, and the queue without it.
+abbrev pub oldest : Queue → ℕ
+oldest q = getD (waiting q) 0 0
+
+abbrev pub behindIt : Queue → Queue
+behindIt q = queueOf (drop 1 (waiting q))
+
+-- A byte was given: what is sent again on FE is the last one that was not FE itself.
+unfoldable pub remembering : Dock → ℕ → Dock
+remembering d byte = withGiven d (pick (eqb byte 0xfe) (d .given) byte)
+
+-- The oldest reply is given.
+unfoldable pub replyTaken : Dock → Taken
+replyTaken d =
+    taken (Reply (oldest (d .replies))) (closing (remembering (withReplies d (behindIt (d .replies))) (oldest (d .replies))))
+
+-- The oldest key byte is given.
+unfoldable pub keyByteTaken : Dock → Taken
+keyByteTaken d =
+    let q = d .keys .queue in
+    taken (KeyByte (oldest q)) (closing (remembering (withKeys d (withQueue (d .keys) (behindIt q))) (oldest q)))
+
+-- The oldest reply, else the oldest key byte, else nothing.
+unfoldable pub read : Dock → Taken
+read d =
+    pick (eqb (d .replies .length) 0)
+    (pick (eqb (d .keys .queue .length) 0) (taken Nothing (closing d)) (keyByteTaken d))
+    (replyTaken d)
+
+-- The read call: only a record out of its range is refused.
+unfoldable pub readOf : Dock → Taken
+readOf d = pick (inRange d) (read d) (taken Refused d)

@@ -1,0 +1,41 @@
+-- A panel swap (docs/RULES.md, section 8). Assumes nothing.
+use mathlib.Core.Bool.{true}
+use mathlib.Core.List.{List}
+use Prim.Native.Nat.{ℕ}
+use lib.Dec.{eqb}
+use lib.ListN.{length, replicate}
+use Rattle.basics.specs.Choice.{pick}
+use Rattle.basics.specs.Lists.{allUpTo}
+use Rattle.record.specs.declared.Dock.{Dock}
+use Rattle.record.specs.Parts.{dock, withMap, withRepeat}
+use Rattle.record.specs.Range.{inRange}
+use Rattle.dock.specs.declared.Answer.the-variants.{Accepted, MapLength, MapEntry, MapDouble, BadRecord}
+use Rattle.dock.specs.declared.Answered.{Answered}
+use Rattle.dock.specs.Answers.{answered}
+use Rattle.dock.specs.Closing.{closing}
+use Rattle.maps.specs.Maps.{hasDouble}
+
+-- A swap takes the map, drops contact history and the repeating key, and opens a handover.
+unfoldable pub opened : Dock → List ℕ → Dock
+opened d map =
+    dock map (record { closed = replicate 18 0; counts = replicate 144 0 }) (withRepeat (d .keys) 0 0)
+    (d .types) (d .mode) (d .replies) (d .scanning) (d .waiting) true (d .given)
+
+-- A second swap during a handover only replaces the map.
+unfoldable pub remapped : Dock → List ℕ → Dock
+remapped d map = pick (d .handover) (withMap d map) (opened d map)
+
+-- Either way the handover goes on at once.
+unfoldable pub swapped : Dock → List ℕ → Dock
+swapped d map = closing (remapped d map)
+
+-- The swap call: the record first, then the map's length, its entries, and keys that stand twice.
+unfoldable pub swapOf : Dock → List ℕ → Answered
+swapOf d map =
+    pick (inRange d)
+    (pick (eqb (length map) 144)
+    (pick (allUpTo 104 map)
+    (pick (hasDouble map) (answered MapDouble d) (answered Accepted (swapped d map)))
+    (answered MapEntry d))
+    (answered MapLength d))
+    (answered BadRecord d)

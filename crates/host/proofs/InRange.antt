@@ -1,0 +1,164 @@
+-- A record in its range stays in its range, whatever byte the host sends. Assumes nothing.
+use mathlib.Core.Path.{_≡_, refl}
+use mathlib.Core.Bool.{Bool, true, false}
+use mathlib.Core.List.{List, [], _∷_}
+use Prim.Native.Nat.{ℕ, zero, suc, _-_, _≤_}
+use native.Mathlib.Omega.{arith}
+use borrow.Author.Tests.{leb-true, le-leb}
+use lib.Dec.{eqb, leb}
+use lib.ListN.{length, set, replicate}
+use Rattle.basics.specs.Choice.{pick, both, either, between}
+use Rattle.basics.specs.Lists.{allUpTo}
+use Rattle.basics.proofs.Flags.{left-of-both, right-of-both}
+use Rattle.lookup.specs.Lookup.{keyWith}
+use Rattle.queue.specs.Queues.{queueOf}
+use Rattle.queue.proofs.Meaning.{tidy-queueOf}
+use Rattle.record.specs.declared.Dock.{Dock}
+use Rattle.record.specs.Power.{defaultTypes, freshWith, powerOn}
+use Rattle.record.specs.Range.{takesValue, goodWaiting, inRange}
+use Rattle.record.proofs.Ranges.{good-mode, good-mode-set, good-mode-rate, good-mode-indicators, good-keys-with-queue, good-keys-with-repeat}
+use Rattle.record.proofs.Ranges.{in-range-map, in-range-keys, in-range-types, in-range-mode, in-range-replies}
+use Rattle.record.proofs.Ranges.{in-range-with-keys, in-range-with-types, in-range-with-mode}
+use Rattle.record.proofs.Ranges.{in-range-with-replies, in-range-with-waiting, in-range-with-scanning}
+use Rattle.record.proofs.PowerOn.{fresh-in-range, power-on-in-range}
+use Rattle.host.specs.Commands.{replying, cleared, unrepeated, withSet, withRate, withIndicators, withType}
+use Rattle.host.specs.Commands.{readied, enabled, defaulted, disabled, typed, restarted, obeyed, replyTo, commanded}
+use Rattle.host.specs.Commands.{rightValue, valued, given, tookByte}
+
+-- Of two records the one that is picked is in range, and of two lists it is short.
+picked : (t : Bool) (x y : Dock) → (t ≡ true → inRange x ≡ true) → inRange y ≡ true → inRange (pick t x y) ≡ true
+picked true x y f g = f refl
+picked false x y f g = g
+
+short : (t : Bool) (x y : List ℕ) → length x ≤ 16 → length y ≤ 16 → length (pick t x y) ≤ 16
+short true x y f g = f
+short false x y f g = g
+
+-- Types up to 3: one of them replaced, and all the same.
+replaced : (limit : ℕ) (l : List ℕ) (i x : ℕ) → allUpTo limit l ≡ true → x ≤ limit → allUpTo limit (set l i x) ≡ true
+unfolding allUpTo
+replaced limit [] i x g h = refl
+replaced limit (y ∷ ys) zero x g h = rw (le-leb x limit h) (right-of-both (leb y limit) (allUpTo limit ys) g)
+replaced limit (y ∷ ys) (suc i) x g h =
+    rw (left-of-both (leb y limit) (allUpTo limit ys) g) (replaced limit ys i x (right-of-both (leb y limit) (allUpTo limit ys) g) h)
+
+same : (limit n x : ℕ) → x ≤ limit → allUpTo limit (replicate n x) ≡ true
+unfolding allUpTo
+same limit zero x h = refl
+same limit (suc n) x h = rw (le-leb x limit h) (same limit n x h)
+
+default-types : allUpTo 3 defaultTypes ≡ true
+unfolding powerOn freshWith
+default-types = in-range-types powerOn power-on-in-range
+
+-- The replies to a command are few.
+replies-few : (byte : ℕ) → length (replyTo byte) ≤ 16
+unfolding replyTo
+replies-few byte =
+    short (eqb byte 0xee) (0xee ∷ []) _ (omega arith)
+    (short (either (eqb byte 0xef) (eqb byte 0xf1)) (0xfe ∷ []) _ (omega arith)
+    (short (eqb byte 0xf2) (0xfa ∷ 0xab ∷ 0x83 ∷ []) _ (omega arith)
+    (short (eqb byte 0xff) (0xfa ∷ 0xaa ∷ []) (0xfa ∷ []) (omega arith) (omega arith))))
+
+-- A command that is left waiting takes a value.
+waits-well : (byte : ℕ) (t : Bool) → takesValue byte ≡ t → goodWaiting (pick t byte 0) ≡ true
+waits-well byte true e = rw e (always (eqb byte 0))
+  where
+    always : (b : Bool) → either b true ≡ true
+    always true = refl
+    always false = refl
+waits-well byte false e = refl
+
+module _ (d : Dock) (h : inRange d ≡ true) where
+  pub replying-in-range : (bytes : List ℕ) → length bytes ≤ 16 → inRange (replying bytes d) ≡ true
+  replying-in-range bytes few = in-range-with-replies d h (queueOf bytes) (tidy-queueOf bytes few)
+
+  cleared-in-range : inRange (cleared d) ≡ true
+  cleared-in-range = in-range-with-keys d h _ (good-keys-with-queue (d .keys) (in-range-keys d h) (queueOf []) (tidy-queueOf [] (omega arith)))
+
+  unrepeated-in-range : inRange (unrepeated d) ≡ true
+  unrepeated-in-range = in-range-with-keys d h _ (good-keys-with-repeat (d .keys) (in-range-keys d h) 0 0 (omega arith) (omega arith))
+
+  set-in-range : (set : ℕ) → 1 ≤ set → set ≤ 3 → inRange (withSet set d) ≡ true
+  set-in-range set a b =
+      let g = in-range-mode d h in
+      in-range-with-mode d h _ (good-mode _ a b (good-mode-rate (d .mode) g) (good-mode-indicators (d .mode) g))
+
+  rate-in-range : (rate : ℕ) → rate ≤ 127 → inRange (withRate rate d) ≡ true
+  rate-in-range rate a =
+      let g = in-range-mode d h in
+      in-range-with-mode d h _
+      (good-mode _ (good-mode-set (d .mode) g .0) (good-mode-set (d .mode) g .1) a (good-mode-indicators (d .mode) g))
+
+  indicators-in-range : (indicators : ℕ) → indicators ≤ 7 → inRange (withIndicators indicators d) ≡ true
+  indicators-in-range indicators a =
+      let g = in-range-mode d h in
+      in-range-with-mode d h _ (good-mode _ (good-mode-set (d .mode) g .0) (good-mode-set (d .mode) g .1) (good-mode-rate (d .mode) g) a)
+
+  type-in-range : (key kind : ℕ) → kind ≤ 3 → inRange (withType key kind d) ≡ true
+  type-in-range key kind a = in-range-with-types d h _ (replaced 3 (d .types) key kind (in-range-types d h) a)
+
+  restarted-in-range : inRange (restarted d) ≡ true
+  restarted-in-range = fresh-in-range (d .map) (d .replies) (in-range-map d h) (in-range-replies d h)
+
+module _ (d : Dock) (h : inRange d ≡ true) where
+  still-in-range : inRange (unrepeated (cleared d)) ≡ true
+  still-in-range = unrepeated-in-range (cleared d) (cleared-in-range d h)
+
+  defaulted-in-range : inRange (defaulted d) ≡ true
+  defaulted-in-range =
+      let still = unrepeated (cleared d) in
+      let set = set-in-range still still-in-range 2 (omega arith) (omega arith) in
+      in-range-with-types (withRate 0x2b (withSet 2 still)) (rate-in-range (withSet 2 still) set 0x2b (omega arith)) defaultTypes default-types
+
+  typed-in-range : (kind : ℕ) → kind ≤ 3 → inRange (typed kind d) ≡ true
+  typed-in-range kind a = in-range-with-types (cleared d) (cleared-in-range d h) (replicate 105 kind) (same 3 105 kind a)
+
+  -- A command, row by row.
+  obeyed-in-range : (byte : ℕ) → inRange (obeyed byte d) ≡ true
+  unfolding obeyed
+  obeyed-in-range byte =
+      picked (eqb byte 0xf0) (readied d) _ (λ e. rate-in-range (unrepeated (cleared d)) still-in-range 0x2b (omega arith))
+      (picked (eqb byte 0xf4) (enabled d) _ (λ e. in-range-with-scanning (unrepeated (cleared d)) still-in-range true)
+      (picked (eqb byte 0xf5) (disabled d) _ (λ e. in-range-with-scanning (defaulted d) defaulted-in-range false)
+      (picked (eqb byte 0xf6) (defaulted d) _ (λ e. defaulted-in-range)
+      (picked (between 0xf7 0xfa byte) (typed (byte - 0xf7) d) _
+      (λ e. typed-in-range (byte - 0xf7) (omega (arith, leb-true byte 0xfa (right-of-both (leb 0xf7 byte) (leb byte 0xfa) e))))
+      (picked (between 0xfb 0xfd byte) (cleared d) _ (λ e. cleared-in-range d h)
+      (picked (eqb byte 0xff) (restarted d) d (λ e. restarted-in-range d h) h))))))
+
+  commanded-in-range : (byte : ℕ) → inRange (commanded byte d) ≡ true
+  unfolding commanded
+  commanded-in-range byte =
+      let waits = in-range-with-waiting (obeyed byte d) (obeyed-in-range byte) _ (waits-well byte (takesValue byte) refl) in
+      replying-in-range _ waits (replyTo byte) (replies-few byte)
+
+  -- A value that is right for its command.
+  valued-in-range : (command value : ℕ) → rightValue command value ≡ true → inRange (valued command value d) ≡ true
+  unfolding rightValue valued
+  valued-in-range command value r = go (keyWith 3 value) (eqb command 0xed) (eqb command 0xf0) (eqb command 0xf3) r
+    where
+      go : (key : ℕ) (a b c : Bool)
+          → pick a (leb value 7) (pick b (between 1 3 value) (pick c (leb value 127) (both (between 0xfb 0xfd command) (between 1 104 key)))) ≡ true
+          → inRange (pick a (withIndicators value d) (pick b (withSet value d) (pick c (withRate value d) (withType key (command - 0xfb) d)))) ≡ true
+      go key true b c e = indicators-in-range d h value (leb-true value 7 e)
+      go key false true c e =
+          set-in-range d h value (leb-true 1 value (left-of-both (leb 1 value) (leb value 3) e)) (leb-true value 3 (right-of-both (leb 1 value) (leb value 3) e))
+      go key false false true e = rate-in-range d h value (leb-true value 127 e)
+      go key false false false e =
+          let last : leb command 0xfd ≡ true = search (left-of-both, right-of-both) in
+          type-in-range d h key (command - 0xfb) (omega (arith, leb-true command 0xfd last))
+
+  given-in-range : (byte : ℕ) → inRange (given byte d) ≡ true
+  unfolding given
+  given-in-range byte =
+      picked (rightValue (d .waiting) byte) _ _
+      (λ e. replying-in-range _ (in-range-with-waiting (valued (d .waiting) byte d) (valued-in-range (d .waiting) byte e) 0 refl) (0xfa ∷ []) (omega arith))
+      (replying-in-range d h (0xfe ∷ []) (omega arith))
+
+  -- Any byte.
+  pub took-in-range : (byte : ℕ) → inRange (tookByte byte d) ≡ true
+  unfolding tookByte
+  took-in-range byte =
+      picked (eqb byte 0xfe) _ _ (λ e. replying-in-range d h (d .given ∷ []) (omega arith))
+      (picked (leb 0xed byte) (commanded byte d) (given byte d) (λ e. commanded-in-range byte) (given-in-range byte))

@@ -1,0 +1,13 @@
+-- `host::commands::clear` meets its contract: the queue is the empty one. Assumes nothing.
+use borrow.Author.Needs.{needs}
+use Rattle.host.proofs.commands.clear.Statement.{statement}
+use Rattle.host.proofs.commands.clear.Tie as tie
+
+empty-requires : tie.Need-empty-requires
+empty-requires c κs = search needs
+
+returns : tie.Need-returns
+returns c = rw (c .empty .ensures)
+
+pub clear-spec : {M : Type 1} → statement M
+clear-spec = tie.close (tie.spec empty-requires returns)

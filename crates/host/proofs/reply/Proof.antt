@@ -1,0 +1,13 @@
+-- `host::reply` meets its contract: the replies are the queue of the one byte. Assumes nothing.
+use borrow.Author.Needs.{needs}
+use Rattle.host.proofs.reply.Statement.{statement}
+use Rattle.host.proofs.reply.Tie as tie
+
+one-requires : tie.Need-one-requires
+one-requires c κs = search needs
+
+returns : tie.Need-returns
+returns c = rw (c .one .ensures)
+
+pub reply-spec : {M : Type 1} → statement M
+reply-spec = tie.close (tie.spec one-requires returns)

@@ -1,0 +1,32 @@
+-- `host::values::give` meets its contract: a right value is done and answered FA, and any other byte is answered FE. Assumes nothing.
+use mathlib.Core.Path.{sym, _∙_}
+use borrow.Author.Tests.{not-true, not-false}
+use borrow.Author.Needs.{needs}
+use Rattle.host.proofs.Rows.{given-wrong, given-right}
+use Rattle.host.proofs.values.give.Statement.{statement}
+use Rattle.host.proofs.values.give.Tie as tie
+
+is-right-requires : tie.Need-is-right-requires
+is-right-requires c κs = search needs
+
+reply-requires : tie.Need-reply-requires
+reply-requires c κs = search needs
+
+returns : tie.Need-returns
+returns c = c .reply .ensures ∙ given-wrong _ _ _ (c .before .before .is-right .ensures) (not-true _ (c .before .if1 .taken))
+
+apply-requires : tie.Need-apply-requires
+apply-requires c κs = sym (c .before .is-right .ensures) ∙ not-false _ (c .if1 .left)
+
+reply-requires-2 : tie.Need-reply-requires-2
+reply-requires-2 c κs = search needs
+
+returns-2 : tie.Need-returns-2
+returns-2 c =
+    let l = c .before .before in
+    c .reply2 .ensures ∙ given-right _ _ _ (l .before .is-right .ensures) (not-false _ (l .if1 .left)) _ (c .before .apply .ensures)
+
+pub give-spec : {M : Type 1} → statement M
+give-spec =
+    tie.close
+    (tie.spec is-right-requires reply-requires returns apply-requires reply-requires-2 returns-2)

@@ -1,0 +1,114 @@
+-- What the host's bytes do (docs/RULES.md, section 11). Assumes nothing.
+use Prim.Native.Nat.{ℕ, _-_}
+use mathlib.Core.Bool.{Bool, true, false}
+use mathlib.Core.List.{List, [], _∷_}
+use lib.Dec.{eqb, leb}
+use lib.ListN.{replicate, set}
+use Rattle.basics.specs.Choice.{pick, both, either, between}
+use Rattle.lookup.specs.Lookup.{keyWith}
+use Rattle.queue.specs.Queues.{queueOf}
+use Rattle.record.specs.declared.Dock.{Dock}
+use Rattle.record.specs.Parts.{withKeys, withTypes, withMode, withReplies, withScanning, withWaiting, withQueue, withRepeat}
+use Rattle.record.specs.Power.{freshWith, defaultTypes}
+use Rattle.record.specs.Range.{takesValue}
+
+-- The replies that a byte leaves waiting, instead of those before.
+abbrev pub replying : List ℕ → Dock → Dock
+replying bytes d = withReplies d (queueOf bytes)
+
+-- No key byte waits; no key repeats.
+abbrev pub cleared : Dock → Dock
+cleared d = withKeys d (withQueue (d .keys) (queueOf []))
+
+abbrev pub unrepeated : Dock → Dock
+unrepeated d = withKeys d (withRepeat (d .keys) 0 0)
+
+-- A part of the mode replaced, and the type of one key.
+abbrev pub withSet : ℕ → Dock → Dock
+withSet set d = withMode d (record { set = set; rate = d .mode .rate; indicators = d .mode .indicators })
+
+abbrev pub withRate : ℕ → Dock → Dock
+withRate rate d = withMode d (record { set = d .mode .set; rate = rate; indicators = d .mode .indicators })
+
+abbrev pub withIndicators : ℕ → Dock → Dock
+withIndicators indicators d = withMode d (record { set = d .mode .set; rate = d .mode .rate; indicators = indicators })
+
+abbrev pub withType : ℕ → ℕ → Dock → Dock
+withType key kind d = withTypes d (set (d .types) key kind)
+
+-- F0, until the set is given: the default rate.
+abbrev pub readied : Dock → Dock
+readied d = withRate 0x2b (unrepeated (cleared d))
+
+-- F4: scanning on.
+abbrev pub enabled : Dock → Dock
+enabled d = withScanning (unrepeated (cleared d)) true
+
+-- F6: set 2, the default rate and types. F5: scanning off too.
+abbrev pub defaulted : Dock → Dock
+defaulted d = withTypes (withRate 0x2b (withSet 2 (unrepeated (cleared d)))) defaultTypes
+
+abbrev pub disabled : Dock → Dock
+disabled d = withScanning (defaulted d) false
+
+-- F7 to FA: every key has the same type.
+abbrev pub typed : ℕ → Dock → Dock
+typed kind d = withTypes (cleared d) (replicate 105 kind)
+
+-- FF: as at power-on, but for the map. The replies are replaced when the command is answered.
+abbrev pub restarted : Dock → Dock
+restarted d = freshWith (d .map) (d .replies)
+
+-- What a command does at once. FB to FD clear, and give the type with their value.
+unfoldable pub obeyed : ℕ → Dock → Dock
+obeyed byte d =
+    pick (eqb byte 0xf0) (readied d)
+    (pick (eqb byte 0xf4) (enabled d)
+    (pick (eqb byte 0xf5) (disabled d)
+    (pick (eqb byte 0xf6) (defaulted d)
+    (pick (between 0xf7 0xfa byte) (typed (byte - 0xf7) d)
+    (pick (between 0xfb 0xfd byte) (cleared d)
+    (pick (eqb byte 0xff) (restarted d)
+    d))))))
+
+-- What a command is answered with.
+unfoldable pub replyTo : ℕ → List ℕ
+replyTo byte =
+    pick (eqb byte 0xee) (0xee ∷ [])
+    (pick (either (eqb byte 0xef) (eqb byte 0xf1)) (0xfe ∷ [])
+    (pick (eqb byte 0xf2) (0xfa ∷ 0xab ∷ 0x83 ∷ [])
+    (pick (eqb byte 0xff) (0xfa ∷ 0xaa ∷ [])
+    (0xfa ∷ []))))
+
+-- A command: it is obeyed and answered, and waits if it takes a value. It ends the wait of another.
+unfoldable pub commanded : ℕ → Dock → Dock
+commanded byte d = replying (replyTo byte) (withWaiting (obeyed byte d) (pick (takesValue byte) byte 0))
+
+-- A value that a command takes: indicators 0 to 7, a set, a rate below 80, the set 3 code of a key. No other byte takes one.
+unfoldable pub rightValue : ℕ → ℕ → Bool
+rightValue command value =
+    pick (eqb command 0xed) (leb value 7)
+    (pick (eqb command 0xf0) (between 1 3 value)
+    (pick (eqb command 0xf3) (leb value 127)
+    (both (between 0xfb 0xfd command) (between 1 104 (keyWith 3 value)))))
+
+-- What the value does.
+unfoldable pub valued : ℕ → ℕ → Dock → Dock
+valued command value d =
+    pick (eqb command 0xed) (withIndicators value d)
+    (pick (eqb command 0xf0) (withSet value d)
+    (pick (eqb command 0xf3) (withRate value d)
+    (withType (keyWith 3 value) (command - 0xfb) d)))
+
+-- A byte below ED: a value that the waiting command takes, or nothing that the dock knows.
+unfoldable pub given : ℕ → Dock → Dock
+given byte d =
+    pick (rightValue (d .waiting) byte)
+    (replying (0xfa ∷ []) (withWaiting (valued (d .waiting) byte d) 0))
+    (replying (0xfe ∷ []) d)
+
+-- A host byte. FE has the last byte sent again and lets a command go on waiting.
+unfoldable pub tookByte : ℕ → Dock → Dock
+tookByte byte d =
+    pick (eqb byte 0xfe) (replying (d .given ∷ []) d)
+    (pick (leb 0xed byte) (commanded byte d) (given byte d))

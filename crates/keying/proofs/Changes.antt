@@ -1,0 +1,40 @@
+-- A key goes down or comes up, as the code meets it: by the sequence that holds its bytes. Assumes nothing.
+use mathlib.Core.Path.{_≡_, sym, ap, _∙_}
+use mathlib.Core.Bool.{Bool, true, false}
+use mathlib.Core.List.{List}
+use Prim.Native.Nat.{ℕ}
+use lib.ListN.{set}
+use Rattle.codes.specs.declared.Action.the-variants.{Press, Release}
+use Rattle.codes.specs.declared.Sequence.{Sequence}
+use Rattle.codes.specs.Codes.{mayRepeat}
+use Rattle.codes.specs.Encoder.{holding}
+use Rattle.queue.specs.declared.Queue.{Queue}
+use Rattle.queue.specs.Queues.{contents}
+use Rattle.record.specs.declared.Mode.{Mode}
+use Rattle.record.specs.declared.Keys.{Keys}
+use Rattle.keying.specs.Sending.{sends, queuedOf}
+use Rattle.keying.specs.Repeat.{delayOf}
+use Rattle.keying.specs.Moves.{pressed, releasedWith, released}
+use Rattle.keying.proofs.Sent.{sequence-is}
+
+-- The keys by their four parts.
+abbrev pub keys : List ℕ → Queue → ℕ → ℕ → Keys
+keys held queue repeating clock = record { held = held; queue = queue; repeating = repeating; clock = clock }
+
+module _ (k : Keys) (m : Mode) (type key : ℕ) where
+  pub released-by-its-bytes : (s : Sequence) → s ≡ holding (sends k m type key Release) → releasedWith k m key (contents s) ≡ released k m type key
+  unfolding released
+  released-by-its-bytes s e = ap (releasedWith k m key) (sequence-is k m type key Release s e)
+
+  module _ (s : Sequence) (q : Queue) (e : s ≡ holding (sends k m type key Press)) (f : q ≡ queuedOf (k .queue) m (contents s))
+      (may : Bool) (t : may ≡ mayRepeat (m .set) key type) where
+    queue-is : q ≡ queuedOf (k .queue) m (sends k m type key Press)
+    queue-is = f ∙ ap (queuedOf (k .queue) m) (sequence-is k m type key Press s e)
+
+    pub pressed-repeats : may ≡ true → (delay : ℕ) → delay ≡ delayOf (m .rate) → keys (set (k .held) key 1) q key delay ≡ pressed k m type key
+    unfolding pressed
+    pressed-repeats y delay d = simp (sym t, y, d, queue-is)
+
+    pub pressed-once : may ≡ false → keys (set (k .held) key 1) q 0 0 ≡ pressed k m type key
+    unfolding pressed
+    pressed-once n = simp (sym t, n, queue-is)

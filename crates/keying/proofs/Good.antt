@@ -1,0 +1,161 @@
+-- Keys in range stay in range, whatever happens to them. Assumes nothing.
+use mathlib.Core.Path.{_≡_, refl}
+use mathlib.Core.Bool.{Bool, true}
+use mathlib.Core.List.{List, [], _∷_}
+use Prim.Native.Nat.{ℕ, zero, suc, _+_, _*_, _-_, _/_, _%_, _^_, _≤_, _<_}
+use native.Mathlib.Omega.{arith}
+use borrow.Author.Tests.{leb-true, le-leb}
+use lib.Dec.{leb, eqb}
+use lib.ListN.{length, getD, set, take, length-take}
+use Rattle.basics.specs.Choice.{both, between}
+use Rattle.basics.specs.Lists.{allUpTo}
+use Rattle.basics.proofs.Flags.{left-of-both, right-of-both}
+use Rattle.codes.specs.declared.Action.the-variants.{Press, Release, Repeat}
+use Rattle.codes.specs.Codes.{mayRepeat}
+use Rattle.keys.specs.Keys.{markOf}
+use Rattle.queue.specs.declared.Queue.{Queue}
+use Rattle.queue.specs.Queues.{waiting, tidy}
+use Rattle.queue.proofs.Meaning.{tidy-short, tidy-queueOf}
+use Rattle.queue.proofs.Room.{pushed-short}
+use Rattle.record.specs.declared.Mode.{Mode}
+use Rattle.record.specs.declared.Keys.{Keys}
+use Rattle.record.specs.Range.{goodMode, goodKeys}
+use Rattle.keying.specs.Sending.{sends, queuedOf}
+use Rattle.keying.specs.Repeat.{delayOf, intervalOf, ticked, isDue, repeated}
+use Rattle.keying.specs.Moves.{pressed, releasedWith, released, moved, turned, turnsTo, rowsTo}
+use Rattle.keying.specs.Handover.{handedFrom}
+use Rattle.keying.proofs.Sent.{sends-short}
+use Rattle.keying.proofs.Kept.{picked, handed-keeps, moved-keeps, turned-keeps, turns-keep, rows-keep}
+
+-- What the range of the keys says of each part.
+pub record Parts (k : Keys) : Type 0 where
+  pub flags : allUpTo 1 (k .held) ≡ true
+  pub queue : tidy (k .queue) ≡ true
+  pub repeating : k .repeating ≤ 104
+  pub clock : k .clock ≤ 240
+
+pub parts : (k : Keys) → goodKeys k ≡ true → Parts k
+unfolding goodKeys
+parts k g =
+    let h = leb (k .repeating) 104 in
+    let t = leb (k .clock) 240 in
+    let behind = right-of-both (allUpTo 1 (k .held)) (both (tidy (k .queue)) (both h t)) g in
+    let last = right-of-both (tidy (k .queue)) (both h t) behind in
+    record {
+      flags = left-of-both (allUpTo 1 (k .held)) (both (tidy (k .queue)) (both h t)) g;
+      queue = left-of-both (tidy (k .queue)) (both h t) behind;
+      repeating = leb-true _ _ (left-of-both h t last);
+      clock = leb-true _ _ (right-of-both h t last);
+    }
+
+pub whole : (k : Keys) → Parts k → goodKeys k ≡ true
+unfolding goodKeys
+whole k p = rw (p .flags, p .queue, le-leb _ _ (p .repeating), le-leb _ _ (p .clock))
+
+pub rate-small : (m : Mode) → goodMode m ≡ true → m .rate ≤ 127
+unfolding goodMode
+rate-small m g =
+    let rate = leb (m .rate) 127 in
+    let rest = both rate (leb (m .indicators) 7) in
+    leb-true _ _ (left-of-both rate (leb (m .indicators) 7) (right-of-both (between 1 3 (m .set)) rest g))
+
+-- A flag may be put up or taken down.
+pub up-to-set : (limit : ℕ) (l : List ℕ) (i v : ℕ) → v ≤ limit → allUpTo limit l ≡ true → allUpTo limit (set l i v) ≡ true
+unfolding allUpTo
+up-to-set limit [] i v h e = refl
+up-to-set limit (x ∷ xs) zero v h e = rw (le-leb v limit h) (right-of-both (leb x limit) (allUpTo limit xs) e)
+up-to-set limit (x ∷ xs) (suc i) v h e =
+    rw (left-of-both (leb x limit) (allUpTo limit xs) e)
+    (up-to-set limit xs i v h (right-of-both (leb x limit) (allUpTo limit xs) e))
+
+-- A queue stays one, whatever is queued.
+pub queued-tidy : (q : Queue) (m : Mode) (bytes : List ℕ) → tidy q ≡ true → tidy (queuedOf q m bytes) ≡ true
+unfolding queuedOf waiting
+queued-tidy q m bytes t =
+    let short : length (take (q .length) (q .bytes)) ≤ 16 = omega (arith, length-take (q .length) (q .bytes), tidy-short q t) in
+    tidy-queueOf _ (pushed-short (markOf (m .set)) (take (q .length) (q .bytes)) bytes short)
+
+-- No delay and no interval outlasts the clock.
+pub delay-small : (rate : ℕ) → rate ≤ 127 → delayOf rate ≤ 240
+unfolding delayOf
+delay-small rate h = omega arith
+
+steps-small : (a b : ℕ) → a < 8 → b < 4 → (8 + a) * 2 ^ b ≤ 120
+steps-small a zero h l = omega arith
+steps-small a (suc zero) h l = omega arith
+steps-small a (suc (suc zero)) h l = omega arith
+steps-small a (suc (suc (suc zero))) h l = omega arith
+steps-small a (suc (suc (suc (suc b)))) h l = absurd (omega arith)
+
+pub interval-small : (rate : ℕ) → intervalOf rate ≤ 120
+unfolding intervalOf
+interval-small rate = steps-small (rate % 8) (rate / 8 % 4) (omega arith) (omega arith)
+
+-- A key goes down or comes up, and contacts turn.
+abbrev InRange : Keys → Type 0
+InRange k = goodKeys k ≡ true
+
+module _ (m : Mode) where
+  pub released-good : (k : Keys) (type key : ℕ) → goodKeys k ≡ true → goodKeys (released k m type key) ≡ true
+  unfolding released releasedWith
+  released-good k type key g =
+      let p = parts k g in
+      whole _ (record {
+        flags = up-to-set 1 (k .held) key 0 (omega arith) (p .flags);
+        queue = queued-tidy (k .queue) m (sends k m type key Release) (p .queue);
+        repeating = picked (λ (n : ℕ). n ≤ 104) (eqb (k .repeating) key) 0 (k .repeating) (omega arith) (p .repeating);
+        clock = picked (λ (n : ℕ). n ≤ 240) (eqb (k .repeating) key) 0 (k .clock) (omega arith) (p .clock);
+      })
+
+  pub handed-good : (n key : ℕ) (k : Keys) (types : List ℕ) → goodKeys k ≡ true → goodKeys (handedFrom n key k m types .keys) ≡ true
+  handed-good = handed-keeps InRange m released-good
+
+  module _ (h : goodMode m ≡ true) where
+    pub pressed-good : (k : Keys) (type key : ℕ) → key ≤ 104 → goodKeys k ≡ true → goodKeys (pressed k m type key) ≡ true
+    unfolding pressed
+    pressed-good k type key l g =
+        let p = parts k g in
+        let may = mayRepeat (m .set) key type in
+        whole _ (record {
+          flags = up-to-set 1 (k .held) key 1 (omega arith) (p .flags);
+          queue = queued-tidy (k .queue) m (sends k m type key Press) (p .queue);
+          repeating = picked (λ (n : ℕ). n ≤ 104) may key 0 l (omega arith);
+          clock = picked (λ (n : ℕ). n ≤ 240) may (delayOf (m .rate)) 0 (delay-small (m .rate) (rate-small m h)) (omega arith);
+        })
+
+    module _ (types : List ℕ) where
+      pub moved-good : (key closed : ℕ) → key ≤ 104 → (k : Keys) → goodKeys k ≡ true → goodKeys (moved k m types key closed) ≡ true
+      moved-good = moved-keeps InRange m released-good pressed-good types
+
+      module _ (map : List ℕ) (a : allUpTo 104 map ≡ true) where
+        pub turned-good : (position before after : ℕ) (k : Keys) → goodKeys k ≡ true → goodKeys (turned m types map position before after k) ≡ true
+        turned-good = turned-keeps InRange m released-good pressed-good types map a
+
+        pub turns-good : (n : ℕ) (was is : List ℕ) (k : Keys) → goodKeys k ≡ true → goodKeys (turnsTo n m types map was is k) ≡ true
+        turns-good = turns-keep InRange m released-good pressed-good types map a
+
+        pub rows-good : (n column was is : ℕ) (k : Keys) → goodKeys k ≡ true → goodKeys (rowsTo n m types map column was is k) ≡ true
+        rows-good = rows-keep InRange m released-good pressed-good types map a
+
+-- The key that repeats.
+pub ticked-good : (k : Keys) → goodKeys k ≡ true → goodKeys (ticked k) ≡ true
+ticked-good k g =
+    let p = parts k g in
+    whole _ (record { flags = p .flags; queue = p .queue; repeating = p .repeating; clock = omega arith })
+
+pub repeated-good : (k : Keys) (m : Mode) (types : List ℕ) (quiet : Bool) → goodKeys k ≡ true → goodKeys (repeated k m types quiet) ≡ true
+unfolding repeated
+repeated-good k m types quiet g =
+    let p = parts k g in
+    let type = getD types (k .repeating) 0 in
+    let short = sends-short k m type (k .repeating) Repeat in
+    picked InRange (isDue k) _ _
+    (picked InRange (mayRepeat (m .set) (k .repeating) type) _ _
+    (whole _ (record {
+      flags = p .flags;
+      queue = picked (λ (q : Queue). tidy q ≡ true) quiet _ _ (tidy-queueOf _ (omega (arith, short))) (p .queue);
+      repeating = p .repeating;
+      clock = omega (arith, interval-small (m .rate));
+    }))
+    (whole _ (record { flags = p .flags; queue = p .queue; repeating = omega arith; clock = omega arith })))
+    g

@@ -1,0 +1,97 @@
+-- `keying::handover::hand_over` meets its contract. The loop's invariant: key is at most 105, and what is left of the handover is the
+-- same handover of the keys as they are, from that key on. The measure is what is left of the keys. Assumes nothing.
+use mathlib.Core.Path.{_∙_}
+use mathlib.Core.Logic.{⊎-elim}
+use Prim.Native.Nat.{_+_, _-_, _≤_}
+use native.Mathlib.Omega.{arith}
+use borrow.Author.Tests.{not-true, not-false}
+use Rattle.queue.proofs.Meaning.{tidy-short}
+use Rattle.keying.proofs.Good.{parts}
+use Rattle.keying.proofs.Sent.{sequence-short}
+use Rattle.keying.proofs.Leaving.{Going, begins, passes, leaves, waits, ends}
+use Rattle.keying.proofs.handover.hand_over.Statement.{statement}
+use Rattle.keying.proofs.handover.hand_over.Tie as tie
+
+abbrev Inv-loop : tie.InvT-loop
+Inv-loop m types e₀ key₀ e key = (key ≤ 105) × Going m types e₀ key e
+
+abbrev μ-loop : tie.MeasureT-loop
+μ-loop m types e₀ key₀ e key = 105 - key
+
+loop-holds : tie.Need-loop-holds Inv-loop μ-loop
+loop-holds c = (omega arith, begins _ _ _ (c .pre .0))
+
+cast-if1 : tie.Need-cast-if1 Inv-loop μ-loop
+cast-if1 c = omega arith
+
+element-copy-out-if1 : tie.Need-element-copy-out-if1 Inv-loop μ-loop
+element-copy-out-if1 c = omega arith
+
+cast-bytes-of : tie.Need-cast-bytes-of Inv-loop μ-loop
+cast-bytes-of c = omega arith
+
+element-copy-out-bytes-of : tie.Need-element-copy-out-bytes-of Inv-loop μ-loop
+element-copy-out-bytes-of c = omega arith
+
+bytes-of-requires : tie.Need-bytes-of-requires Inv-loop μ-loop
+bytes-of-requires c κs = parts _ (c .before .before .before .before .loop .inv .1 .good) .flags
+
+fits-requires : tie.Need-fits-requires Inv-loop μ-loop
+fits-requires c κs =
+    let l = c .before .before .before .before .before .before in
+    (tidy-short _ (parts _ (l .loop .inv .1 .good) .queue), sequence-short _ _ _ _ _ _ (c .before .bytes-of .ensures))
+
+returns : tie.Need-returns Inv-loop μ-loop
+returns c =
+    let f = c .before in
+    let i = f .before .before .before .before in
+    let l = i .before .before .before in
+    waits _ _ _ _ _ (l .loop .inv .1) (i .before .before .loop-test .taken) (i .if1 .taken) _ _ (f .before .before .bytes-of .ensures)
+    (f .fits2 .ensures) (not-true _ (c .if2 .taken))
+
+release-with-requires : tie.Need-release-with-requires Inv-loop μ-loop
+release-with-requires c κs =
+    let b = c .before .before .before in
+    let l = b .before .before .before .before .before in
+    (l .loop .inv .1 .good, omega arith, sequence-short _ _ _ _ _ _ (b .bytes-of .ensures))
+
+add-key : tie.Need-add-key Inv-loop μ-loop
+add-key c = omega arith
+
+loop-less : tie.Need-loop-less Inv-loop μ-loop
+loop-less c = omega arith
+
+loop-again : tie.Need-loop-again Inv-loop μ-loop
+loop-again c =
+    let l = c .before .before .before in
+    let a = l .before .args in
+    let t = c .before .before .loop-test .taken in
+    let again : Going (a .m) (a .types .now) (a .k) (l .loop .key + 1) (c .if1 .e) = ⊎-elim
+    (λ w. leaves _ _ _ _ _ (l .loop .inv .1) t (w .0 .taken) _ _ (w .2 .ensures) (w .4 .ensures)
+    (not-false _ (w .5 .left)) _ (w .7 ∙ w .6 .ensures))
+    (λ w. passes _ _ _ _ _ (l .loop .inv .1) t _ (w .0 .left) (w .1))
+    (c .if1 .came) in
+    (omega arith, again)
+
+returns-2 : tie.Need-returns-2 Inv-loop μ-loop
+returns-2 c = ends _ _ _ _ _ (c .before .loop .inv .1) (c .loop-test .left) (c .before .loop .inv .0)
+
+pub hand-over-spec : {M : Type 1} → statement M
+hand-over-spec =
+    tie.close
+    (tie.spec
+    Inv-loop
+    μ-loop
+    loop-holds
+    cast-if1
+    element-copy-out-if1
+    cast-bytes-of
+    element-copy-out-bytes-of
+    bytes-of-requires
+    fits-requires
+    returns
+    release-with-requires
+    add-key
+    loop-less
+    loop-again
+    returns-2)

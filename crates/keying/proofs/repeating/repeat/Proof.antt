@@ -1,0 +1,69 @@
+-- `keying::repeating::repeat` meets its contract: at each return the tests so far decide what the definition gives. Assumes nothing.
+use native.Mathlib.Omega.{arith}
+use borrow.Author.Needs.{needs}
+use borrow.Author.Tests.{not-true, not-false}
+use Rattle.keying.proofs.Good.{parts}
+use Rattle.keying.proofs.Sent.{sequence-short}
+use Rattle.keying.proofs.Due.{repeats-none, repeats-later, repeats-no-more, repeats-lost, repeats-sent}
+use Rattle.keying.proofs.repeating.repeat.Statement.{statement}
+use Rattle.keying.proofs.repeating.repeat.Tie as tie
+
+returns : tie.Need-returns
+returns c = repeats-none _ _ _ _ (c .if1 .taken)
+
+returns-2 : tie.Need-returns-2
+returns-2 c = repeats-later _ _ _ _ (c .before .before .if1 .left) (c .if2 .taken)
+
+cast-kind : tie.Need-cast-kind
+cast-kind c = search needs
+
+element-copy-out-kind : tie.Need-element-copy-out-kind
+element-copy-out-kind c = omega (arith, parts _ (c .before .before .before .pre .0) .repeating)
+
+may-repeat-requires : tie.Need-may-repeat-requires
+may-repeat-requires c κs = search needs
+
+returns-3 : tie.Need-returns-3
+returns-3 c =
+    let d = c .before .before .before in
+    repeats-no-more _ _ _ _ (d .before .before .if1 .left) (d .if2 .left) _ (c .before .may-repeat .ensures) (not-true _ (c .if3 .taken))
+
+interval-of-requires : tie.Need-interval-of-requires
+interval-of-requires c κs = search needs
+
+returns-4 : tie.Need-returns-4
+returns-4 c =
+    let d = c .before .before .before .before .before in
+    let r = c .before .before in
+    repeats-lost _ _ _ _ (d .before .before .if1 .left) (d .if2 .left) _ (r .before .may-repeat .ensures) (not-false _ (r .if3 .left))
+    _ (c .before .interval-of .ensures) (not-true _ (c .if4 .taken))
+
+bytes-of-requires : tie.Need-bytes-of-requires
+bytes-of-requires c κs = parts _ (c .before .before .before .before .before .before .before .before .pre .0) .flags
+
+holding-requires : tie.Need-holding-requires
+holding-requires c κs = sequence-short _ _ _ _ _ _ (c .bytes-of .ensures)
+
+returns-5 : tie.Need-returns-5
+returns-5 c =
+    let q = c .before .before in
+    let d = q .before .before .before .before .before in
+    let r = q .before .before in
+    repeats-sent _ _ _ _ (d .before .before .if1 .left) (d .if2 .left) _ (r .before .may-repeat .ensures) (not-false _ (r .if3 .left))
+    _ (q .before .interval-of .ensures) (not-false _ (q .if4 .left)) _ _ (c .before .bytes-of .ensures) (c .holding .ensures)
+
+pub repeat-spec : {M : Type 1} → statement M
+repeat-spec =
+    tie.close
+    (tie.spec
+    returns
+    returns-2
+    cast-kind
+    element-copy-out-kind
+    may-repeat-requires
+    returns-3
+    interval-of-requires
+    returns-4
+    bytes-of-requires
+    holding-requires
+    returns-5)

@@ -1,0 +1,17 @@
+-- `keying::repeating::tick` meets its contract: a clock at 0 stays there. Assumes nothing.
+use borrow.Author.Needs.{needs}
+use Rattle.keying.proofs.Due.{clock-stands}
+use Rattle.keying.proofs.repeating.tick.Statement.{statement}
+use Rattle.keying.proofs.repeating.tick.Tie as tie
+
+returns : tie.Need-returns
+returns c = clock-stands _ (c .if1 .taken)
+
+sub-e : tie.Need-sub-e
+sub-e c = search needs
+
+returns-2 : tie.Need-returns-2
+returns-2 c = search needs
+
+pub tick-spec : {M : Type 1} → statement M
+tick-spec = tie.close (tie.spec returns sub-e returns-2)

@@ -1,0 +1,34 @@
+-- The handover of a panel's held keys (docs/RULES.md, section 8). Assumes nothing.
+use Prim.Native.Nat.{ℕ, zero, suc}
+use mathlib.Core.Bool.{Bool, true, false, not}
+use mathlib.Core.List.{List}
+use lib.Dec.{eqb}
+use lib.ListN.{getD, length}
+use Rattle.basics.specs.Choice.{pick, either}
+use Rattle.codes.specs.declared.Action.the-variants.{Release}
+use Rattle.queue.specs.Queues.{waiting, hasRoom}
+use Rattle.record.specs.declared.Mode.{Mode}
+use Rattle.record.specs.declared.Keys.{Keys}
+use Rattle.keying.specs.declared.Handed.{Handed}
+use Rattle.keying.specs.Sending.{sends}
+use Rattle.keying.specs.Moves.{released}
+
+-- A key is held.
+abbrev pub isHeld : Keys → ℕ → Bool
+isHeld k key = not (eqb (getD (k .held) key 0) 0)
+
+-- The release of a key would fit into the queue.
+abbrev pub canLeave : Keys → Mode → List ℕ → ℕ → Bool
+canLeave k m types key = hasRoom (waiting (k .queue)) (length (sends k m (getD types key 0) key Release))
+
+-- n keys from `key` on: each that is held is released as soon as its release fits, and one that has to wait holds up all behind it.
+unfoldable pub handedFrom : ℕ → ℕ → Keys → Mode → List ℕ → Handed
+handedFrom zero key k m types = record { keys = k; unfinished = false }
+handedFrom (suc n) key k m types =
+    let next = pick (isHeld k key) (released k m (getD types key 0) key) k in
+    let rest = handedFrom n (suc key) next m types in
+    pick (either (not (isHeld k key)) (canLeave k m types key)) rest (record { keys = k; unfinished = true })
+
+-- All keys, the lowest first.
+abbrev pub handedOver : Keys → Mode → List ℕ → Handed
+handedOver k m types = handedFrom 104 1 k m types

@@ -1,0 +1,4 @@
+pub mod Sending
+pub mod Moves
+pub mod Repeat
+pub mod Handover

@@ -1,0 +1,30 @@
+-- What a key sends now, and how it is queued (docs/RULES.md, sections 3 and 7). Assumes nothing.
+use Prim.Native.Nat.{ℕ, _+_, _*_, _/_, _%_}
+use mathlib.Core.Bool.{Bool}
+use mathlib.Core.List.{List}
+use lib.Dec.{eqb}
+use lib.ListN.{getD}
+use Rattle.codes.specs.declared.Action.{Action}
+use Rattle.codes.specs.Codes.{encode}
+use Rattle.keys.specs.Keys.{markOf}
+use Rattle.queue.specs.declared.Queue.{Queue}
+use Rattle.queue.specs.Queues.{waiting, queueOf, pushedTo}
+use Rattle.record.specs.declared.Mode.{Mode}
+use Rattle.record.specs.declared.Keys.{Keys}
+
+-- The modifier keys among the held ones, as the encoder takes them.
+unfoldable pub modifiersOf : List ℕ → ℕ
+modifiersOf held =
+    getD held 42 0 + 2 * getD held 53 0 + 4 * getD held 54 0 + 8 * getD held 58 0 + 16 * getD held 55 0 + 32 * getD held 57 0
+
+-- Num Lock is an indicator.
+abbrev pub numLock : Mode → Bool
+numLock m = eqb (m .indicators / 2 % 2) 1
+
+-- The bytes that an action of a key sends as things stand.
+unfoldable pub sends : Keys → Mode → ℕ → ℕ → Action → List ℕ
+sends k m type key action = encode (m .set) key action type (modifiersOf (k .held)) (numLock m)
+
+-- The queue with bytes behind it, or with the set's overrun mark if they do not fit.
+unfoldable pub queuedOf : Queue → Mode → List ℕ → Queue
+queuedOf q m bytes = queueOf (pushedTo (markOf (m .set)) (waiting q) bytes)

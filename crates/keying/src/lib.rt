@@ -1,0 +1,13 @@
+// Keys as the terminal is told of them (docs/RULES.md, sections 5, 6 and 8): pressed, released, repeated and handed over.
+use record::Keys;
+
+pub mod sending; // sending.rt: what a key sends now
+pub mod moves; // moves.rt: a key goes down or comes up
+pub mod repeating; // repeating.rt: the key that repeats
+pub mod handover; // handover.rt: the keys of a panel that was taken away
+
+// The keys after a handover went on, and whether it is still open.
+pub struct Handed {
+    pub keys: Keys,
+    pub unfinished: bool,
+}

@@ -1,0 +1,57 @@
+-- What a line of the bench does and prints (docs/RULES.md, section 12). Assumes nothing.
+use Prim.Native.Nat.{ℕ}
+use mathlib.Core.List.{List}
+use lib.Dec.{eqb}
+use Rattle.basics.specs.Choice.{pick}
+use Rattle.dock.specs.declared.Answer.{Answer}
+use Rattle.dock.specs.declared.Answered.{Answered}
+use Rattle.dock.specs.declared.Given.{Given}
+use Rattle.dock.specs.declared.Given.the-variants.{Nothing, Reply, KeyByte, Refused}
+use Rattle.dock.specs.declared.Taken.{Taken}
+use Rattle.dock.specs.Answers.{numberOf, readNumberOf}
+use Rattle.dock.specs.Frame.{frameOf}
+use Rattle.dock.specs.Read.{readOf}
+use Rattle.dock.specs.Scan.{scanOf}
+use Rattle.dock.specs.Swap.{swapOf}
+use Rattle.frames.specs.Frames as frames
+use Rattle.record.specs.declared.Dock.{Dock}
+use Rattle.text.specs.declared.Kind.{Kind}
+use Rattle.text.specs.declared.Kind.the-variants.{Read, Frame, Scan, Map, Malformed}
+use Rattle.text.specs.Digits.{bytesFrom, frameIn}
+use Rattle.text.specs.Lines.{kindOf}
+use Rattle.lines.specs.declared.Printed.{Printed}
+use Rattle.lines.specs.declared.Printed.the-variants.{Silence, FrameLine, RefusalLine}
+use Rattle.lines.specs.declared.Stepped.{Stepped}
+
+-- An accepted line prints nothing; a refused one prints its number.
+abbrev pub answerPrints : Answer → Printed
+answerPrints answer = pick (eqb (numberOf answer) 0) Silence (RefusalLine (numberOf answer))
+
+-- A read prints the frame of the byte given, or 000.
+abbrev pub readPrints : Given → Printed
+readPrints Nothing = FrameLine 0
+readPrints (Reply byte) = FrameLine (frames.frameOf byte)
+readPrints (KeyByte byte) = FrameLine (frames.frameOf byte)
+readPrints Refused = RefusalLine (readNumberOf Refused)
+
+-- The record and what is printed.
+abbrev pub stepped : Dock → Printed → Stepped
+stepped dock printed = record { dock = dock; printed = printed }
+
+abbrev pub steppedBy : Answered → Stepped
+steppedBy r = stepped (r .dock) (answerPrints (r .answer))
+
+abbrev pub steppedRead : Taken → Stepped
+steppedRead r = stepped (r .dock) (readPrints (r .given))
+
+-- What a line of a kind does.
+abbrev pub stepBy : Kind → Dock → List ℕ → Stepped
+stepBy Read d line = steppedRead (readOf d)
+stepBy Frame d line = steppedBy (frameOf d (frameIn line))
+stepBy Scan d line = steppedBy (scanOf d (bytesFrom line 0 18))
+stepBy Map d line = steppedBy (swapOf d (bytesFrom line 0 144))
+stepBy Malformed d line = stepped d (RefusalLine 8)
+
+-- What a line does, its newline apart.
+unfoldable pub stepOf : Dock → List ℕ → Stepped
+stepOf d line = stepBy (kindOf line) d line

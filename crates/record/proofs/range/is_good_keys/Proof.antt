@@ -1,0 +1,17 @@
+-- `record::range::is_good_keys` meets its contract: its tests are those of the definition, in their order. Assumes nothing.
+use borrow.Author.Needs.{needs}
+use Rattle.record.proofs.Joining.{joined-keys}
+use Rattle.record.proofs.range.is_good_keys.Statement.{statement}
+use Rattle.record.proofs.range.is_good_keys.Tie as tie
+
+all-up-to-requires : tie.Need-all-up-to-requires
+all-up-to-requires c κs = search needs
+
+is-tidy-requires : tie.Need-is-tidy-requires
+is-tidy-requires c κs = search needs
+
+returns : tie.Need-returns
+returns c = joined-keys _ _ _ (c .before .all-up-to .ensures) (c .is-tidy .ensures)
+
+pub is-good-keys-spec : {M : Type 1} → statement M
+is-good-keys-spec = tie.close (tie.spec all-up-to-requires is-tidy-requires returns)

@@ -1,0 +1,43 @@
+-- The dock at power-on (docs/RULES.md, section 11). Assumes nothing.
+use Prim.Native.Nat.{ℕ, zero, suc}
+use mathlib.Core.Bool.{true, false}
+use mathlib.Core.List.{List, [], _∷_, _++_, map}
+use lib.ListN.{replicate}
+use Rattle.keys.specs.declared.Row.{Row}
+use Rattle.keys.specs.Keys.{rows, noRow}
+use Rattle.queue.specs.declared.Queue.{Queue}
+use Rattle.queue.specs.Queues.{queueOf}
+use Rattle.record.specs.declared.Dock.{Dock}
+
+-- n numbers from `first` on.
+unfoldable pub countUp : ℕ → ℕ → List ℕ
+countUp first zero = []
+countUp first (suc n) = first ∷ countUp (suc first) n
+
+-- The plain map: position p holds key p + 1, and past the keys there is none.
+unfoldable pub plainMap : List ℕ
+plainMap = countUp 1 104 ++ replicate 40 0
+
+-- The default types, by key number.
+unfoldable pub defaultTypes : List ℕ
+defaultTypes = map (λ (r : Row). r .3) (noRow ∷ rows)
+
+-- A dock that has just woken up: set 2, default rate and types, scanning on, indicators off, nothing held, no byte given yet.
+unfoldable pub freshWith : List ℕ → Queue → Dock
+freshWith map replies =
+    record {
+      map = map;
+      contacts = record { closed = replicate 18 0; counts = replicate 144 0 };
+      keys = record { held = replicate 144 0; queue = queueOf []; repeating = 0; clock = 0 };
+      types = defaultTypes;
+      mode = record { set = 2; rate = 0x2b; indicators = 0 };
+      replies = replies;
+      scanning = true;
+      waiting = 0;
+      handover = false;
+      given = 0xfe;
+    }
+
+-- Power-on: the plain map, and AA waits as a reply.
+unfoldable pub powerOn : Dock
+powerOn = freshWith plainMap (queueOf (0xaa ∷ []))

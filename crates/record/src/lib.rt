@@ -1,0 +1,35 @@
+// The dock's record (docs/RULES.md, sections 5 to 8 and 11; docs/RECORD.md lists the range of every part).
+use contacts::Contacts;
+use queue::Queue;
+
+pub mod power; // power.rt: the record at power-on
+pub mod range; // range.rt: is every part in its range
+
+// What the host has chosen.
+pub struct Mode {
+    pub set: u8, // 1 to 3
+    pub rate: u8, // repeat rate and delay, as F3 gives them: 0 to 127
+    pub indicators: u8, // 1 Scroll, 2 Num, 4 Caps, added up
+}
+
+// The keys as the terminal is told of them.
+pub struct Keys {
+    pub held: [u8; 144], // by key number: 1 held, 0 not; places 0 and 105 on are never set
+    pub queue: Queue, // the key bytes that wait
+    pub repeating: u8, // the key that repeats, 0 for none
+    pub clock: u8, // the scans until its next repeat: 0 to 240
+}
+
+// All that the dock knows.
+pub struct Dock {
+    pub map: [u8; 144], // the key at each position, 0 for none
+    pub contacts: Contacts, // what the counted scans made of the contacts
+    pub keys: Keys,
+    pub types: [u8; 105], // the set 3 type of each key, by key number
+    pub mode: Mode,
+    pub replies: Queue, // the replies that wait
+    pub scanning: bool,
+    pub waiting: u8, // the command that waits for its value, 0 for none
+    pub handover: bool, // keys of a panel that was taken away are still to be released
+    pub given: u8, // the last byte given that was not FE; FE before there is one
+}

@@ -1,0 +1,62 @@
+// Is every part of a record in its range. The loops keep a flag and run to their ends, so that the compiler takes sixteen entries at a time;
+// the tests are joined by `&` and `|`, so that there is one way through.
+use crate::Dock;
+use crate::Keys;
+use crate::Mode;
+ghost use mathlib.Core.Path.{_≡_};
+ghost use Rattle.basics.specs.Lists.{allUpTo};
+ghost use Rattle.record.specs.Range.{goodMode, goodKeys, takesValue, inRange};
+
+// No entry is over a limit.
+pub fn all_up_to(limit: u8, list: &[u8]) -> bool
+    ensures { λ r. ⌜ r ≡ allUpTo limit (now (list .entry)) ⌝ }
+{
+    let mut good = true;
+    let mut i: usize = 0;
+    while i < list.len() {
+        if limit < list[i] {
+            good = false;
+        }
+        i += 1;
+    }
+    good
+}
+
+// A set, a rate and indicators that the host can choose.
+fn is_good_mode(m: Mode) -> bool
+    ensures { λ r. ⌜ r ≡ goodMode m ⌝ }
+{
+    (1 <= m.set) & (m.set <= 3) & (m.rate <= 127) & (m.indicators <= 7)
+}
+
+// Flags, a queue, a key or none, and a clock that no interval outlasts.
+fn is_good_keys(k: Keys) -> bool
+    ensures { λ r. ⌜ r ≡ goodKeys k ⌝ }
+{
+    let q = k.queue;
+    all_up_to(1, &k.held) & queue::is_tidy(q) & (k.repeating <= 104) & (k.clock <= 240)
+}
+
+// A command that takes a value.
+pub fn takes_value(byte: u8) -> bool
+    ensures { λ r. ⌜ r ≡ takesValue byte ⌝ }
+{
+    (byte == 0xed) | (byte == 0xf0) | (byte == 0xf3) | ((0xfb <= byte) & (byte <= 0xfd))
+}
+
+// Every part is in its range.
+pub fn in_range(d: Dock) -> bool
+    ensures { λ r. ⌜ r ≡ inRange d ⌝ }
+{
+    let contacts = d.contacts;
+    let keys = d.keys;
+    let mode = d.mode;
+    let replies = d.replies;
+    all_up_to(104, &d.map)
+        & all_up_to(2, &contacts.counts)
+        & is_good_keys(keys)
+        & all_up_to(3, &d.types)
+        & is_good_mode(mode)
+        & queue::is_tidy(replies)
+        & ((d.waiting == 0) | takes_value(d.waiting))
+}

@@ -1,0 +1,73 @@
+-- The bytes that a line of digits stands for: how many, which, below 256, and how a loop puts them into an array. Assumes nothing.
+use mathlib.Core.Path.{_≡_, refl, sym, ap, ap₂, _∙_}
+use mathlib.Core.Bool.{true}
+use mathlib.Core.List.{List, append-nil}
+use Prim.Native.Nat.{ℕ, zero, suc, _+_, _*_, _≤_, _<_}
+use native.Mathlib.Nat.{add-zero, add-suc, suc-add, zero-add, le-of-suc-le-suc, not-suc-le-zero, le-antisymm}
+use native.Mathlib.Numerals.{add-one}
+use native.Mathlib.Omega.{arith}
+use borrow.Author.Tests.{le-leb}
+use lib.ListN.{length, getD, set, replicate, length-replicate, drop-of-length-le}
+use lib.Seq.{paste, paste-zero, paste-suc, take-all}
+use Rattle.basics.specs.Lists.{allUpTo}
+use Rattle.basics.proofs.Limits.{up-to-at}
+use Rattle.text.specs.Digits.{valueOf, allDigits, byteAt, bytesFrom}
+use Rattle.text.proofs.Characters.{value-at-below-16}
+
+pub length-bytes : (line : List ℕ) (i n : ℕ) → length (bytesFrom line i n) ≡ n
+unfolding bytesFrom
+length-bytes line i zero = refl
+length-bytes line i (suc n) = ap suc (length-bytes line (suc i) n)
+
+bytes-at-from : (line : List ℕ) (i n k : ℕ) → k < n → getD (bytesFrom line i n) k 0 ≡ byteAt line (i + k)
+unfolding bytesFrom
+bytes-at-from line i zero k h = absurd (not-suc-le-zero h)
+bytes-at-from line i (suc n) zero h = rw add-zero
+bytes-at-from line i (suc n) (suc k) h = rw (add-suc, ← suc-add) (bytes-at-from line (suc i) n k (le-of-suc-le-suc h))
+
+pub bytes-at : (line : List ℕ) (n k : ℕ) → k < n → getD (bytesFrom line 0 n) k 0 ≡ byteAt line k
+bytes-at line n k h = bytes-at-from line 0 n k h ∙ ap (byteAt line) (zero-add k)
+
+-- A byte is two digits.
+pub byte-below-256 : (line : List ℕ) (i : ℕ) → allDigits line ≡ true → byteAt line i < 256
+unfolding byteAt
+byte-below-256 line i d =
+    sum (valueOf (getD line (2 * i) 0)) (valueOf (getD line (2 * i + 1) 0)) (value-at-below-16 line (2 * i) d) (value-at-below-16 line (2 * i + 1) d)
+  where
+    sum : (high low : ℕ) → high < 16 → low < 16 → 16 * high + low < 256
+    sum high low h l = omega arith
+
+pub bytes-up-to-255 : (line : List ℕ) (i n : ℕ) → allDigits line ≡ true → allUpTo 255 (bytesFrom line i n) ≡ true
+unfolding allUpTo bytesFrom
+bytes-up-to-255 line i zero d = refl
+bytes-up-to-255 line i (suc n) d =
+    rw (le-leb (byteAt line i) 255 (le-of-suc-le-suc (byte-below-256 line i d))) (bytes-up-to-255 line (suc i) n d)
+
+pub bytes-below-256 : (line : List ℕ) (i n k : ℕ) → allDigits line ≡ true → getD (bytesFrom line i n) k 0 < 256
+bytes-below-256 line i n k d = omega (arith, up-to-at 255 (bytesFrom line i n) k (bytes-up-to-255 line i n d))
+
+-- The loop: an array of n zeros with its first i entries replaced by the line's first i bytes.
+unfoldable pub bytesUpTo : ℕ → List ℕ → ℕ → List ℕ
+bytesUpTo n line i = paste (replicate n 0) 0 (bytesFrom line 0 n) i
+
+pub bytes-none : (n : ℕ) (line : List ℕ) → replicate n 0 ≡ bytesUpTo n line 0
+unfolding bytesUpTo
+bytes-none n line = paste-zero (replicate n 0) 0 (bytesFrom line 0 n)
+
+module _ (n : ℕ) (line : List ℕ) (i : ℕ) (array : List ℕ) (k : array ≡ bytesUpTo n line i) where
+  pub bytes-more : i < n → (byte : ℕ) → byte ≡ byteAt line i → set array i byte ≡ bytesUpTo n line (i + 1)
+  unfolding bytesUpTo
+  bytes-more h byte e =
+      rw (k, e)
+      (ap₂ (λ (j x : ℕ). set (bytesUpTo n line i) j x) (sym (zero-add i)) (sym (bytes-at line n i h))
+      ∙ paste-suc (replicate n 0) 0 (bytesFrom line 0 n) i 0 (omega (arith, length-replicate {A = ℕ} n 0)) (omega (arith, length-bytes line 0 n))
+      ∙ ap (bytesUpTo n line) (sym (add-one i)))
+
+  pub bytes-all : i ≤ n → n ≤ i → array ≡ bytesFrom line 0 n
+  unfolding bytesUpTo
+  bytes-all a b =
+      k ∙ ap (bytesUpTo n line) (le-antisymm a b)
+      ∙ rw (
+        take-all n (bytesFrom line 0 n) (omega (arith, length-bytes line 0 n)),
+        drop-of-length-le {A = ℕ} (replicate n 0) {i = 0 + n} (omega (arith, length-replicate {A = ℕ} n 0)),
+      ) (append-nil (bytesFrom line 0 n))

@@ -1,0 +1,4 @@
+pub mod Characters
+pub mod Bytes
+pub mod Newlines
+pub mod Lengths

@@ -1,0 +1,107 @@
+-- Where a line ends: the search for the first newline, and the test that none stands among some characters. Assumes nothing.
+use mathlib.Core.Path.{_≡_, refl, sym, ap, _∙_}
+use mathlib.Core.Bool.{Bool, true, false}
+use mathlib.Core.List.{List, [], _∷_}
+use Prim.Native.Nat.{ℕ, zero, suc, _+_, _≤_, _<_}
+use native.Mathlib.Nat.{add-zero, add-suc, le-antisymm}
+use native.Mathlib.Numerals.{add-one}
+use native.Mathlib.Omega.{arith}
+use borrow.Author.Tests.{eq-eqb, ne-eqb, eqb-false}
+use lib.Dec.{eqb}
+use lib.ListN.{length, getD, drop, length-drop, drop-of-length-le}
+use lib.Seq.{drop-cons}
+use Rattle.basics.specs.Choice.{pick, either}
+use Rattle.text.specs.Lines.{newlineAmong, lineLength, lineEnd}
+
+line-length-within : (l : List ℕ) → lineLength l ≤ length l
+unfolding lineLength
+line-length-within [] = omega arith
+line-length-within (c ∷ cs) = go (eqb c 10) (line-length-within cs)
+  where
+    go : (t : Bool) → lineLength cs ≤ length cs → pick t 0 (suc (lineLength cs)) ≤ suc (length cs)
+    go true h = omega arith
+    go false h = omega arith
+
+-- A line ends where it begins or later,
+pub line-end-after : (text : List ℕ) (at : ℕ) → at ≤ lineEnd text at
+unfolding lineEnd
+line-end-after text at = omega arith
+
+-- and not past the text's end.
+pub line-end-within : (text : List ℕ) (at : ℕ) → at ≤ length text → lineEnd text at ≤ length text
+unfolding lineEnd
+line-end-within text at h = omega (arith, line-length-within (drop at text), length-drop at text)
+
+module _ (text : List ℕ) (at : ℕ) where
+  -- At a newline the line ends;
+  pub line-end-here : at < length text → getD text at 0 ≡ 10 → lineEnd text at ≡ at
+  unfolding lineEnd lineLength
+  line-end-here h e = rw (drop-cons text at 0, eq-eqb (getD text at 0) 10 e, add-zero)
+
+  -- at another character it ends where it does from the next place on;
+  pub line-end-past : at < length text → (getD text at 0 ≡ 10 → ⊥) → lineEnd text at ≡ lineEnd text (at + 1)
+  unfolding lineEnd lineLength
+  line-end-past h n = rw (drop-cons text at 0, ne-eqb (getD text at 0) 10 n, add-one) (omega arith)
+
+  -- and at the text's end it ends, too.
+  pub line-end-last : length text ≤ at → lineEnd text at ≡ at
+  unfolding lineEnd lineLength
+  line-end-last h = rw (drop-of-length-le, add-zero)
+
+-- The search: the line that begins at a place ends where it does from i on.
+module _ (text : List ℕ) (at i : ℕ) (k : lineEnd text at ≡ lineEnd text i) where
+  pub search-here : i < length text → getD text i 0 ≡ 10 → i ≡ lineEnd text at
+  search-here h e = sym (k ∙ line-end-here text i h e)
+
+  pub search-on : i < length text → (getD text i 0 ≡ 10 → ⊥) → lineEnd text at ≡ lineEnd text (i + 1)
+  search-on h n = k ∙ line-end-past text i h n
+
+  pub search-end : length text ≤ i → i ≡ lineEnd text at
+  search-end h = sym (k ∙ line-end-last text i h)
+
+pub among-none : (text : List ℕ) (at : ℕ) → false ≡ newlineAmong text at 0
+unfolding newlineAmong
+among-none text at = refl
+
+-- The test: found says whether a newline stands among the first i characters.
+module _ (text : List ℕ) (at i : ℕ) (found : Bool) (k : found ≡ newlineAmong text at i) where
+  pub among-here : getD text (at + i) 0 ≡ 10 → (r : Bool) → r ≡ true → r ≡ newlineAmong text at (i + 1)
+  unfolding newlineAmong
+  among-here e r f = rw (f, add-one, eq-eqb (getD text (at + i) 0) 10 e) (always (newlineAmong text at i))
+    where
+      always : (a : Bool) → true ≡ either a true
+      always true = refl
+      always false = refl
+
+  pub among-not-here : (getD text (at + i) 0 ≡ 10 → ⊥) → (r : Bool) → r ≡ found → r ≡ newlineAmong text at (i + 1)
+  unfolding newlineAmong
+  among-not-here n r f = f ∙ k ∙ rw (add-one, ne-eqb (getD text (at + i) 0) 10 n) (only (newlineAmong text at i))
+    where
+      only : (a : Bool) → a ≡ either a false
+      only true = refl
+      only false = refl
+
+  pub among-end : (n : ℕ) → i ≤ n → n ≤ i → found ≡ newlineAmong text at n
+  among-end n a b = k ∙ ap (newlineAmong text at) (le-antisymm a b)
+
+-- Where no newline stands among n characters, the line ends where it does from the next place on.
+among-past : (text : List ℕ) (at n : ℕ) → at + n ≤ length text → newlineAmong text at n ≡ false → lineEnd text at ≡ lineEnd text (at + n)
+unfolding newlineAmong
+among-past text at zero h e = rw add-zero
+among-past text at (suc n) h e =
+    rw (add-suc, ← add-one)
+    (among-past text at n (omega arith) (first (newlineAmong text at n) (eqb (getD text (at + n) 0) 10) e)
+    ∙ line-end-past text (at + n) (omega arith) (eqb-false _ _ (second (newlineAmong text at n) (eqb (getD text (at + n) 0) 10) e)))
+  where
+    first : (a b : Bool) → either a b ≡ false → a ≡ false
+    first true b f = f
+    first false b f = refl
+
+    second : (a b : Bool) → either a b ≡ false → b ≡ false
+    second true b f = cc
+    second false b f = f
+
+-- So it ends at the newline that comes right after them.
+pub line-end-after-none : (text : List ℕ) (at n : ℕ) → at + n < length text → (found : Bool) → found ≡ newlineAmong text at n → found ≡ false
+    → getD text (at + n) 0 ≡ 10 → at + n ≡ lineEnd text at
+line-end-after-none text at n h found k f e = sym (among-past text at n (omega arith) (sym k ∙ f) ∙ line-end-here text (at + n) h e)

@@ -1,0 +1,55 @@
+-- `text::digits::scan_in` meets its contract. The loop's invariant: the first i entries are the line's first i bytes, the others 0.
+-- The measure is what is left of the scan. Assumes nothing.
+use Prim.Native.Nat.{_-_, _≤_}
+use mathlib.Core.Path.{_≡_}
+use native.Mathlib.Omega.{arith}
+use borrow.Author.Needs.{needs}
+use Rattle.text.proofs.Bytes.{bytesUpTo, bytes-none, bytes-more, bytes-all}
+use Rattle.text.proofs.digits.scan_in.Statement.{statement}
+use Rattle.text.proofs.digits.scan_in.Tie as tie
+
+abbrev Inv-loop : tie.InvT-loop
+Inv-loop line scan₀ i₀ scan i = (i ≤ 18) × (scan ≡ bytesUpTo 18 line i)
+
+abbrev μ-loop : tie.MeasureT-loop
+μ-loop line scan₀ i₀ scan i = 18 - i
+
+loop-holds : tie.Need-loop-holds Inv-loop μ-loop
+loop-holds c = (omega arith, bytes-none 18 _)
+
+byte-at-requires : tie.Need-byte-at-requires Inv-loop μ-loop
+byte-at-requires c κs = search needs
+
+array-write-scan : tie.Need-array-write-scan Inv-loop μ-loop
+array-write-scan c = omega arith
+
+add-i : tie.Need-add-i Inv-loop μ-loop
+add-i c = omega arith
+
+loop-less : tie.Need-loop-less Inv-loop μ-loop
+loop-less c = omega arith
+
+loop-again : tie.Need-loop-again Inv-loop μ-loop
+loop-again c =
+    let t = c .before in
+    let l = t .before .loop in
+    (omega arith, bytes-more 18 _ (l .i) _ (l .inv .1) (t .loop-test .taken) _ (c .byte-at .ensures))
+
+returns : tie.Need-returns Inv-loop μ-loop
+returns c =
+    let l = c .before .loop in
+    bytes-all 18 _ (l .i) _ (l .inv .1) (l .inv .0) (c .loop-test .left)
+
+pub scan-in-spec : {M : Type 1} → statement M
+scan-in-spec =
+    tie.close
+    (tie.spec
+    Inv-loop
+    μ-loop
+    loop-holds
+    byte-at-requires
+    array-write-scan
+    add-i
+    loop-less
+    loop-again
+    returns)

@@ -1,0 +1,12 @@
+// The bench's text (docs/RULES.md, section 12): lines, their kinds, and the numbers in them.
+pub mod digits; // digits.rt: upper-case hexadecimal digits
+pub mod kinds; // kinds.rt: where a line ends, and what kind it is
+
+// What a line can be.
+pub enum Kind {
+    Read,
+    Frame,
+    Scan,
+    Map,
+    Malformed,
+}
