@@ -18,6 +18,7 @@ use Rattle.host.specs.Commands.{replying, tookByte}
 use Rattle.host.proofs.InRange.{replying-in-range, took-in-range}
 use Rattle.keying.specs.Handover.{handedOver}
 use Rattle.keying.specs.Repeat.{ticked}
+use Rattle.keying.proofs.Kept.{picked}
 use Rattle.keying.proofs.Good.{turns-good, ticked-good, repeated-good, handed-good}
 use Rattle.maps.specs.Maps.{hasDouble}
 use Rattle.queue.specs.declared.Queue.{Queue}
@@ -42,11 +43,7 @@ use Rattle.dock.specs.Read.{oldest, behindIt, remembering, replyTaken, k
 abbrev InRange : Dock → Type 0
 InRange d = inRange d ≡ true
 
--- What holds of both holds of the one that is picked.
-picked : {A : Type 0} (P : A → Type 0) (b : Bool) (x y : A) → P x → P y → P (pick b x y)
-picked P true x y p q = p
-picked P false x y p q = q
-
+-- What holds of both holds of the one that is picked, of the first where the test holds.
 picked-if : {A : Type 0} (P : A → Type 0) (b : Bool) (x y : A) → (b ≡ true → P x) → P y → P (pick b x y)
 picked-if P true x y p q = p refl
 picked-if P false x y p q = q
@@ -81,13 +78,17 @@ repeating-in-range d h = in-range-with-keys d h _ (repeated-good (d .keys) (d .m
 pub ticking-in-range : (d : Dock) → inRange d ≡ true → inRange (withKeys d (ticked (d .keys))) ≡ true
 ticking-in-range d h = in-range-with-keys d h (ticked (d .keys)) (ticked-good (d .keys) (in-range-keys d h))
 
--- On the way: as the code has the ticked keys, and the record after the changes.
-pub ticked-in-range : (d : Dock) → inRange d ≡ true → (keys : Keys) → keys ≡ ticked (d .keys) → inRange (withKeys d keys) ≡ true
-ticked-in-range d h keys e = rw e (ticking-in-range d h)
+-- On the way, as the code has it: with the ticked keys, and after a counted scan.
+module _ (d : Dock) (h : inRange d ≡ true) (keys : Keys) (t : keys ≡ ticked (d .keys)) where
+  pub ticked-in-range : inRange (withKeys d keys) ≡ true
+  ticked-in-range = rw t (ticking-in-range d h)
 
-pub heard-in-range-so-far : (d : Dock) (scan : List ℕ) → inRange d ≡ true → (next : Dock)
-    → next ≡ changed (withKeys d (ticked (d .keys))) scan → inRange next ≡ true
-heard-in-range-so-far d scan h next e = rw e (changed-in-range (withKeys d (ticked (d .keys))) scan (ticking-in-range d h))
+  module _ (next : Dock) where
+    pub ticked-leaves-range : next ≡ withKeys d keys → inRange next ≡ true
+    ticked-leaves-range e = rw e ticked-in-range
+
+    pub counted-leaves-range : (scan : List ℕ) (r : Dock) → r ≡ counting (withKeys d keys) scan → next ≡ r → inRange next ≡ true
+    counted-leaves-range scan r i e = rw (e, i) (counting-in-range (withKeys d keys) scan ticked-in-range)
 
 heard-in-range : (d : Dock) (scan : List ℕ) → inRange d ≡ true → inRange (heardScan d scan) ≡ true
 unfolding heardScan

@@ -4,7 +4,7 @@ use mathlib.Core.Logic.{⊎-elim}
 use borrow.Author.Needs.{needs}
 use borrow.Author.Tests.{not-true, not-false}
 use Rattle.dock.specs.Scan.{heardScan}
-use Rattle.dock.proofs.InRange.{ticked-in-range, heard-in-range-so-far}
+use Rattle.dock.proofs.InRange.{ticked-in-range, ticked-leaves-range, counted-leaves-range}
 use Rattle.dock.proofs.Scanning.{heard-believed, heard-phantom, heard-whole}
 use Rattle.dock.proofs.scan.hear.Statement.{statement}
 use Rattle.dock.proofs.scan.hear.Tie as tie
@@ -24,12 +24,8 @@ repeat-requires : tie.Need-repeat-requires
 repeat-requires c κs =
     let tick = c .before .before in
     let start = tick .before .before .before in
-    ⊎-elim
-    (λ w. heard-in-range-so-far _ _ (start .pre .0) _
-    (heard-believed _ _ _ (tick .tick .ensures) _ (c .before .is-phantom .ensures) _ (not-true _ (w .0 .taken)) _ (w .1 .ensures) (w .2)))
-    (λ w. heard-in-range-so-far _ _ (start .pre .0) _
-    (heard-phantom _ _ _ (tick .tick .ensures) _ (c .before .is-phantom .ensures) _ (not-false _ (w .0 .left)) (w .1)))
-    (c .if1 .came)
+    ⊎-elim (λ w. counted-leaves-range _ (start .pre .0) _ (tick .tick .ensures) _ _ _ (w .1 .ensures) (w .2))
+    (λ w. ticked-leaves-range _ (start .pre .0) _ (tick .tick .ensures) _ (w .1)) (c .if1 .came)
 
 returns : tie.Need-returns
 returns c =
