@@ -110,6 +110,21 @@ module _ (k : Contacts) (scan : List ℕ) where
         (8 * c) (k .counts) (before .counts) counts-so-far 8
         (λ r h. rw (contact-at scan c r h, contact-at (k .closed) c r h, closed-kept)))
 
+  -- At rest nothing changes.
+  pub rest-stays : ((i : ℕ) → getD scan i 0 < 256) → (b : Bool) → b ≡ atRest k scan → b ≡ true → k ≡ countedOf k scan
+  unfolding countedOf atRest
+  rest-stays h b e t =
+      let shown : scan ≡ k .closed = same-is scan (k .closed) (left-of-both (same scan (k .closed)) (allUpTo 0 (k .counts)) (sym e ∙ t)) in
+      let none : allUpTo 0 (k .counts) ≡ true = right-of-both (same scan (k .closed)) (allUpTo 0 (k .counts)) (sym e ∙ t) in
+      let f : k .closed ≡ mapFrom newColumn 0 (k .closed) =
+      mapFrom-is newColumn 0 0 (k .closed) (k .closed) refl
+      (λ c q. still-column c (ap (λ (s : List ℕ). getD s c 0) shown) (h c) (getD (k .closed) c 0)) in
+      let g : k .counts ≡ mapFrom newCount 0 (k .counts) =
+      mapFrom-is newCount 0 0 (k .counts) (k .counts) refl
+      (λ p q. (omega (arith, up-to-at 0 (k .counts) p none))
+      ∙ same-count (contact scan p) (contact (k .closed) p) (getD (k .counts) p 0) (ap (λ (s : List ℕ). contact s p) shown)) in
+      λ t. record { closed = f t; counts = g t }
+
   module _ (l : length (k .closed) ≡ 18) (m : length (k .counts) ≡ 144) where
     -- All columns.
     pub counted-all : (c : ℕ) (e : Contacts) → c ≤ 18 → 18 ≤ c → e ≡ countedTo c → e ≡ countedOf k scan
@@ -121,18 +136,3 @@ module _ (k : Contacts) (scan : List ℕ) where
           closed = (ap (λ (x : ℕ). renewed newColumn 0 x (k .closed)) n ∙ renewed-all newColumn (k .closed)) t;
           counts = (ap (λ (x : ℕ). renewed newCount 0 x (k .counts)) p ∙ renewed-all newCount (k .counts)) t;
         })
-
-    -- At rest nothing changes.
-    pub rest-stays : ((i : ℕ) → getD scan i 0 < 256) → (b : Bool) → b ≡ atRest k scan → b ≡ true → k ≡ countedOf k scan
-    unfolding countedOf atRest
-    rest-stays h b e t =
-        let shown : scan ≡ k .closed = same-is scan (k .closed) (left-of-both (same scan (k .closed)) (allUpTo 0 (k .counts)) (sym e ∙ t)) in
-        let none : allUpTo 0 (k .counts) ≡ true = right-of-both (same scan (k .closed)) (allUpTo 0 (k .counts)) (sym e ∙ t) in
-        let f : k .closed ≡ mapFrom newColumn 0 (k .closed) =
-        mapFrom-is newColumn 0 0 (k .closed) (k .closed) refl
-        (λ c q. still-column c (ap (λ (s : List ℕ). getD s c 0) shown) (h c) (getD (k .closed) c 0)) in
-        let g : k .counts ≡ mapFrom newCount 0 (k .counts) =
-        mapFrom-is newCount 0 0 (k .counts) (k .counts) refl
-        (λ p q. (omega (arith, up-to-at 0 (k .counts) p none))
-        ∙ same-count (contact scan p) (contact (k .closed) p) (getD (k .counts) p 0) (ap (λ (s : List ℕ). contact s p) shown)) in
-        λ t. record { closed = f t; counts = g t }

@@ -102,7 +102,7 @@ fn none_counted(counts: &[u8; 144]) -> bool
 }
 
 // Both: a scan of an idle panel, or of keys that are held.
-fn at_rest(k: Contacts, scan: &[u8]) -> bool
+pub fn at_rest(k: Contacts, scan: &[u8]) -> bool
     requires { ⌜ length (now scan) ≡ 18 ⌝ }
     ensures { λ r. ⌜ r ≡ atRest k (now (scan .entry)) ⌝ }
 {

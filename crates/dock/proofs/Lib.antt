@@ -4,3 +4,4 @@ pub mod Scanning
 pub mod Reading
 pub mod Swapping
 pub mod Framing
+pub mod Resting

@@ -6,7 +6,9 @@ use record::Dock;
 ghost use mathlib.Core.Path.{_≡_};
 ghost use mathlib.Core.Bool.{true};
 ghost use lib.ListN.{length};
+ghost use Rattle.record.specs.Parts.{withKeys};
 ghost use Rattle.record.specs.Range.{inRange};
+ghost use Rattle.keying.specs.Repeat.{ticked};
 ghost use Rattle.dock.specs.Scan.{listening, counting, repeating, heardScan, scanOf};
 
 // Scans are listened to.
@@ -34,8 +36,8 @@ fn count(d: Dock, scan: &[u8]) -> Dock
     e
 }
 
-// A scan that is listened to.
-fn hear(d: Dock, scan: &[u8]) -> Dock
+// A scan that is listened to and may change something.
+fn hear_changes(d: Dock, scan: &[u8]) -> Dock
     requires { ⌜ (inRange d ≡ true) × (length (now scan) ≡ 18) ⌝ }
     ensures { λ r. ⌜ r ≡ heardScan d (now (scan .entry)) ⌝ }
 {
@@ -46,6 +48,29 @@ fn hear(d: Dock, scan: &[u8]) -> Dock
         e = count(e, scan);
     }
     repeat(e)
+}
+
+// A scan that shows what counts, while no row of scans is under way, changes nothing, phantom or not: only the repeat is left.
+fn hear_nothing(d: Dock) -> Dock
+    requires { ⌜ inRange d ≡ true ⌝ }
+    ensures { λ r. ⌜ r ≡ repeating (withKeys d (ticked (d .keys))) ⌝ }
+{
+    let k = d.keys;
+    let mut e = d;
+    e.keys = keying::repeating::tick(k);
+    repeat(e)
+}
+
+// A scan that is listened to.
+fn hear(d: Dock, scan: &[u8]) -> Dock
+    requires { ⌜ (inRange d ≡ true) × (length (now scan) ≡ 18) ⌝ }
+    ensures { λ r. ⌜ r ≡ heardScan d (now (scan .entry)) ⌝ }
+{
+    let before = d.contacts;
+    if contacts::history::at_rest(before, scan) {
+        return hear_nothing(d);
+    }
+    hear_changes(d, scan)
 }
 
 // The repeat, after the scan's changes.

@@ -22,7 +22,7 @@ returns : tie.Need-returns Inv-loop μ-loop
 returns c =
     let s = c .before .before in
     let a = s .before .args in
-    rest-stays (a .k) (a .scan .now) (search needs) (search needs) (λ i. omega (arith, s .shared-slice-known .given i)) _
+    rest-stays (a .k) (a .scan .now) (λ i. omega (arith, s .shared-slice-known .given i)) _
     (c .before .at-rest .ensures) (c .if1 .taken)
 
 loop-holds : tie.Need-loop-holds Inv-loop μ-loop

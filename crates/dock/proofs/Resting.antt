@@ -1,0 +1,46 @@
+-- A scan that shows what counts, while no row of scans is under way, changes nothing. Assumes nothing.
+use mathlib.Core.Path.{_≡_, refl, sym, ap, _∙_}
+use mathlib.Core.Bool.{Bool, true, false}
+use mathlib.Core.List.{List}
+use Prim.Native.Nat.{ℕ, zero, suc, _<_}
+use borrow.Author.Tests.{eq-eqb}
+use lib.ListN.{getD}
+use Rattle.basics.specs.Choice.{pick}
+use Rattle.contacts.specs.declared.Contacts.{Contacts}
+use Rattle.contacts.specs.Phantom.{isPhantom}
+use Rattle.contacts.specs.Scans.{contact}
+use Rattle.contacts.specs.Counts.{atRest, countedOf}
+use Rattle.contacts.proofs.Passes.{rest-stays}
+use Rattle.keying.specs.Moves.{turned, turnsTo}
+use Rattle.keying.specs.Repeat.{ticked}
+use Rattle.record.specs.declared.Mode.{Mode}
+use Rattle.record.specs.declared.Keys.{Keys}
+use Rattle.record.specs.declared.Dock.{Dock}
+use Rattle.record.specs.Parts.{withContacts, withKeys}
+use Rattle.dock.specs.Scan.{counting, changed, repeating, heardScan}
+
+-- No contact turned, so no key moves.
+turns-none : (n : ℕ) (m : Mode) (types map was : List ℕ) (k : Keys) → turnsTo n m types map was was k ≡ k
+unfolding turnsTo turned
+turns-none zero m types map was k = refl
+turns-none (suc p) m types map was k = rw (eq-eqb (contact was p) (contact was p) refl) (turns-none p m types map was k)
+
+-- Contacts that stay leave the dock as it is, phantom or not.
+changed-still : (d : Dock) (scan : List ℕ) → countedOf (d .contacts) scan ≡ d .contacts → changed d scan ≡ d
+unfolding changed counting
+changed-still d scan e = go (isPhantom scan)
+  where
+    by : (after : Contacts) → after ≡ d .contacts
+        → withKeys (withContacts d after) (turnsTo 144 (d .mode) (d .types) (d .map) (d .contacts .closed) (after .closed) (d .keys)) ≡ d
+    by after f = rw (f, turns-none 144 (d .mode) (d .types) (d .map) (d .contacts .closed) (d .keys))
+
+    go : (phantom : Bool) → pick phantom d (counting d scan) ≡ d
+    go true = refl
+    go false = by (countedOf (d .contacts) scan) e
+
+pub rest-heard : (d : Dock) (scan : List ℕ) (b : Bool) (r : Dock) → ((i : ℕ) → getD scan i 0 < 256) → b ≡ atRest (d .contacts) scan → b ≡ true
+    → r ≡ repeating (withKeys d (ticked (d .keys))) → r ≡ heardScan d scan
+unfolding heardScan
+rest-heard d scan b r h e t f =
+    f ∙ ap (λ (x : Dock). repeating x)
+    (sym (changed-still (withKeys d (ticked (d .keys))) scan (sym (rest-stays (d .contacts) scan h b e t))))
