@@ -1,0 +1,53 @@
+-- The calls of a dock, and the frames that demand 3 leaves out (docs/RULES.md, section 13). Assumes nothing.
+use Prim.Native.Nat.{ℕ}
+use mathlib.Core.Bool.{Bool, true, false}
+use mathlib.Core.List.{List}
+use lib.Dec.{eqb}
+use Rattle.basics.specs.Choice.{either, between}
+use Rattle.frames.specs.declared.Unpacked.{Unpacked}
+use Rattle.frames.specs.declared.Unpacked.the-variants.{Byte, Broken, TooLarge}
+use Rattle.frames.specs.Frames.{unpackedOf}
+use Rattle.dock.specs.declared.Answer.{Answer}
+use Rattle.dock.specs.declared.Answer.the-variants.{Accepted, ScanLength, MapLength, MapEntry, MapDouble, FrameNumber, BadRecord}
+
+-- Any call with anything in it: bytes of any number as a scan or a map, any number as a frame.
+pub data Call : Type 0 where
+  Scan : List ℕ → Call
+  Swap : List ℕ → Call
+  Frame : ℕ → Call
+  Read : Call
+
+-- A call was accepted.
+abbrev pub isAccepted : Answer → Bool
+isAccepted Accepted = true
+isAccepted ScanLength = false
+isAccepted MapLength = false
+isAccepted MapEntry = false
+isAccepted MapDouble = false
+isAccepted FrameNumber = false
+isAccepted BadRecord = false
+
+-- A host byte that clears the key queue: F0, F4 to FD and FF.
+unfoldable pub clears : ℕ → Bool
+clears byte = either (eqb byte 0xf0) (either (between 0xf4 0xfd byte) (eqb byte 0xff))
+
+-- A frame that carries a byte with some property; a broken one and one over 2047 carry none.
+abbrev pub carries : (ℕ → Bool) → Unpacked → Bool
+carries property (Byte byte) = property byte
+carries property Broken = false
+carries property TooLarge = false
+
+-- A frame whose byte clears the queue,
+unfoldable pub isClearing : ℕ → Bool
+isClearing number = carries clears (unpackedOf number)
+
+-- and one whose byte is FF, the reset.
+unfoldable pub isReset : ℕ → Bool
+isReset number = carries (λ byte. eqb byte 0xff) (unpackedOf number)
+
+-- A call that clears the queue.
+abbrev pub isClearingCall : Call → Bool
+isClearingCall (Scan scan) = false
+isClearingCall (Swap map) = false
+isClearingCall (Frame number) = isClearing number
+isClearingCall Read = false
