@@ -1,0 +1,4 @@
+pub mod Cases
+pub mod Turning
+pub mod Whole
+pub mod Told

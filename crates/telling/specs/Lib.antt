@@ -1,1 +1,2 @@
 pub mod Overruns
+pub mod Queued

@@ -1,7 +1,9 @@
 -- A terminal hears bytes in any portions, and keeps what the reader's events say, one after the other. Assumes nothing.
 use mathlib.Core.Path.{_≡_, refl, sym, ap, _∙_}
 use mathlib.Core.List.{List, [], _∷_, _++_}
-use Prim.Native.Nat.{ℕ}
+use Prim.Native.Nat.{ℕ, _≤_}
+use native.Mathlib.Nat.{not-suc-le-zero}
+use lib.ListN.{length, getD, drop}
 use Rattle.reader.specs.declared.Event.{Event}
 use Rattle.reader.specs.declared.Event.the-variants.{More, Pressed, Released, PauseStruck, Wrapping, Overrun, Unknown, BadState, BadSet}
 use Rattle.reader.specs.Reader.{readByte}
@@ -12,6 +14,13 @@ pub hears-more : (s : ℕ) (t : Terminal) (a b : List ℕ) → hearsAll s t (a +
 unfolding hearsAll
 hears-more s t [] b = refl
 hears-more s t (byte ∷ a) b = hears-more s (hears s t byte) a b
+
+-- The oldest byte first, then those behind it.
+pub hears-first : (s : ℕ) (t : Terminal) (bytes : List ℕ) → 1 ≤ length bytes
+    → hearsAll s (hears s t (getD bytes 0 0)) (drop 1 bytes) ≡ hearsAll s t bytes
+unfolding hearsAll
+hears-first s t [] some = absurd (not-suc-le-zero some)
+hears-first s t (byte ∷ rest) some = refl
 
 -- Events noticed one after the other.
 abbrev pub noticedAll : List Event → List ℕ → List ℕ

@@ -1,0 +1,23 @@
+-- A fact of what a test picks, from a fact of each where it is picked. Assumes nothing.
+use mathlib.Core.Path.{_≡_, refl}
+use mathlib.Core.Bool.{Bool, true, false}
+use Rattle.basics.specs.Choice.{pick, either}
+
+pub by-cases : {A : Type 0} (P : A → Type 0) (b : Bool) (x y : A) → (b ≡ true → P x) → (b ≡ false → P y) → P (pick b x y)
+by-cases P true x y f g = f refl
+by-cases P false x y f g = g refl
+
+-- The same of two things that one test picks.
+pub two-by-cases : {A B : Type 0} (P : A → B → Type 0) (b : Bool) (x y : A) (v w : B)
+    → (b ≡ true → P x v) → (b ≡ false → P y w) → P (pick b x y) (pick b v w)
+two-by-cases P true x y v w f g = f refl
+two-by-cases P false x y v w f g = g refl
+
+-- Where neither of two holds, each does not.
+pub neither-first : (a b : Bool) → either a b ≡ false → a ≡ false
+neither-first true b e = e
+neither-first false b e = refl
+
+pub neither-second : (a b : Bool) → either a b ≡ false → b ≡ false
+neither-second true b e = cc
+neither-second false b e = e
