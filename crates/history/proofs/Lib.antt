@@ -1,0 +1,4 @@
+pub mod Rows
+pub mod Counters
+pub mod Held
+pub mod Example
