@@ -2,3 +2,6 @@ pub mod Cases
 pub mod Turning
 pub mod Whole
 pub mod Told
+pub mod Held
+pub mod Handing
+pub mod Repeating

@@ -1,2 +1,3 @@
 pub mod Overruns
 pub mod Queued
+pub mod Agreeing

@@ -1,0 +1,237 @@
+-- A handover: flags only go down, a finished one leaves none up, an unfinished one leaves a held key whose release has no room,
+-- and each step that has room takes at least one flag down. Assumes nothing.
+use mathlib.Core.Path.{_≡_, refl, _∙_}
+use mathlib.Core.Logic.{_⊎_, inl, inr, ⊎-elim}
+use mathlib.Core.Bool.{Bool, true, false, not}
+use mathlib.Core.List.{List, [], _∷_}
+use Prim.Native.Nat.{ℕ, zero, suc, _+_, _≤_, _<_}
+use native.Mathlib.Decide.{ℕ-discrete}
+use native.Mathlib.Omega.{arith}
+use borrow.Author.Tests.{eqb-true, eqb-false, ne-eqb, not-true, not-false, le-leb, leb-true, leb-false}
+use lib.Dec.{eqb, leb}
+use lib.ListN.{length, getD, set}
+use lib.Seq.{getD-set-other}
+use Rattle.basics.specs.Choice.{pick, either}
+use Rattle.codes.specs.declared.Action.the-variants.{Release}
+use Rattle.queue.specs.Queues.{waiting}
+use Rattle.queue.proofs.Room.{no-room-waits}
+use Rattle.keying.specs.declared.Handed.{Handed}
+use Rattle.keying.specs.Sending.{sends}
+use Rattle.keying.specs.Moves.{releasedWith, released}
+use Rattle.keying.specs.Handover.{isHeld, canLeave, handedFrom}
+use Rattle.keying.proofs.Sent.{sends-short}
+use Rattle.keying.proofs.Kept.{picked, handed-keeps}
+use Rattle.record.specs.declared.Mode.{Mode}
+use Rattle.record.specs.declared.Keys.{Keys}
+use Rattle.telling.specs.Agreeing.{Outside, Lowest, counted, heldTo, heldCount}
+use Rattle.telling.proofs.Cases.{by-cases, neither-first, neither-second}
+
+-- A flag that is taken down is down, also where there is no place for one,
+pub down-own : (held : List ℕ) (key : ℕ) → getD (set held key 0) key 0 ≡ 0
+down-own [] key = refl
+down-own (x ∷ xs) zero = refl
+down-own (x ∷ xs) (suc key) = down-own xs key
+
+-- and any flag is down or as it was.
+pub down-any : (held : List ℕ) (key j : ℕ) → (getD (set held key 0) j 0 ≡ 0) ⊎ (getD (set held key 0) j 0 ≡ getD held j 0)
+down-any held key j = go (ℕ-discrete j key)
+  where
+    go : Dec (j ≡ key) → (getD (set held key 0) j 0 ≡ 0) ⊎ (getD (set held key 0) j 0 ≡ getD held j 0)
+    go (yes e) = inl (rw e (down-own held key))
+    go (no e) = inr (getD-set-other held key j 0 0 e)
+
+-- The tests of a handover, as facts.
+pub held-up : (k : Keys) (key : ℕ) → isHeld k key ≡ true → getD (k .held) key 0 ≡ 0 → ⊥
+held-up k key h = eqb-false _ _ (not-true (eqb (getD (k .held) key 0) 0) h)
+
+pub not-held-down : (k : Keys) (key : ℕ) → isHeld k key ≡ false → getD (k .held) key 0 ≡ 0
+not-held-down k key h = eqb-true _ _ (not-false (eqb (getD (k .held) key 0) 0) h)
+
+-- Where flags went down or stayed, no more keys are held,
+module _ (before after : List ℕ) (lower : (j : ℕ) → (getD after j 0 ≡ 0) ⊎ (getD after j 0 ≡ getD before j 0)) where
+  flag-lower : (j : ℕ) → counted (getD after j 0) ≤ counted (getD before j 0)
+  flag-lower j = ⊎-elim (λ e. rw e (omega arith)) (λ e. rw e (omega arith)) (lower j)
+
+  pub no-more-held : (n : ℕ) → heldTo n after ≤ heldTo n before
+  unfolding heldTo
+  no-more-held zero = omega arith
+  no-more-held (suc n) = omega (arith, no-more-held n, flag-lower (suc n))
+
+  -- and fewer if one of them went down.
+  pub fewer-held : (j : ℕ) → 1 ≤ j → (getD before j 0 ≡ 0 → ⊥) → getD after j 0 ≡ 0 → (n : ℕ) → j ≤ n → heldTo n after < heldTo n before
+  unfolding heldTo
+  fewer-held j some up down zero h = absurd (omega arith)
+  fewer-held j some up down (suc n) h = go (ℕ-discrete j (suc n)) (λ l. fewer-held j some up down n l)
+    where
+      go : Dec (j ≡ suc n) → (j ≤ n → heldTo n after < heldTo n before) → heldTo (suc n) after < heldTo (suc n) before
+      go (yes e) later =
+          let was : counted (getD before (suc n) 0) ≡ 1 = rw (← e, ne-eqb _ _ up) in
+          let is : counted (getD after (suc n) 0) ≡ 0 = rw (← e, down) in
+          omega (arith, no-more-held n)
+      go (no e) later = omega (arith, later (omega arith), flag-lower (suc n))
+
+module _ (m : Mode) (types : List ℕ) where
+  -- Whatever is handed over, a flag is down or as it was,
+  pub handed-any : (n key : ℕ) (k : Keys) (j : ℕ)
+      → (getD (handedFrom n key k m types .keys .held) j 0 ≡ 0) ⊎ (getD (handedFrom n key k m types .keys .held) j 0 ≡ getD (k .held) j 0)
+  unfolding released releasedWith
+  handed-any n key k j =
+      handed-keeps (λ (r : Keys). (getD (r .held) j 0 ≡ 0) ⊎ (getD (r .held) j 0 ≡ getD (k .held) j 0)) m
+      (λ r type key p.
+      ⊎-elim (λ e. inl e) (λ e. ⊎-elim (λ d. inl (e ∙ d)) (λ d. inr (e ∙ d)) p) (down-any (r .held) key j))
+      n key k types (inr refl)
+
+  -- so one that is down stays down.
+  pub handed-down : (n key : ℕ) (k : Keys) (j : ℕ) → getD (k .held) j 0 ≡ 0 → getD (handedFrom n key k m types .keys .held) j 0 ≡ 0
+  handed-down n key k j down = ⊎-elim (λ e. e) (λ e. e ∙ down) (handed-any n key k j)
+
+  pub handed-outside : (n key : ℕ) (k : Keys) → Outside (k .held) → Outside (handedFrom n key k m types .keys .held)
+  handed-outside n key k out j h = handed-down n key k j (out j h)
+
+  -- A key that the handover has passed is not held.
+  passed : Keys → ℕ → Keys
+  passed k key = pick (isHeld k key) (released k m (getD types key 0) key) k
+
+  passed-own : (k : Keys) (key : ℕ) → getD (passed k key .held) key 0 ≡ 0
+  unfolding passed released releasedWith
+  passed-own k key =
+      by-cases (λ (r : Keys). getD (r .held) key 0 ≡ 0) (isHeld k key) _ _ (λ h. down-own (k .held) key) (not-held-down k key)
+
+  passed-other : (k : Keys) (key j : ℕ) → (j ≡ key → ⊥) → getD (passed k key .held) j 0 ≡ getD (k .held) j 0
+  unfolding passed released releasedWith
+  passed-other k key j other =
+      picked (λ (r : Keys). getD (r .held) j 0 ≡ getD (k .held) j 0) (isHeld k key) _ _ (getD-set-other (k .held) key j 0 0 other) refl
+
+  passed-gone : (n key : ℕ) (k : Keys) (j : ℕ) → j ≡ key → getD (handedFrom n (suc key) (passed k key) m types .keys .held) j 0 ≡ 0
+  passed-gone n key k j e = rw e (handed-down n (suc key) (passed k key) key (passed-own k key))
+
+  passed-still : (k : Keys) (key : ℕ) → getD (k .held) key 0 ≡ 0 → passed k key ≡ k
+  unfolding passed
+  passed-still k key down = rw down
+
+  -- What holds of a handover holds if it holds where it goes on and where it stops.
+  module _ (P : Handed → Type 0) (n key : ℕ) (k : Keys) where
+    step : (either (not (isHeld k key)) (canLeave k m types key) ≡ true → P (handedFrom n (suc key) (passed k key) m types))
+        → (isHeld k key ≡ true → canLeave k m types key ≡ false → P (record { keys = k; unfinished = true }))
+        → P (handedFrom (suc n) key k m types)
+    unfolding passed handedFrom
+    step on off =
+        by-cases P (either (not (isHeld k key)) (canLeave k m types key)) _ _ on
+        (λ e.
+        let leaves = canLeave k m types key in
+        off (not-false (isHeld k key) (neither-first (not (isHeld k key)) leaves e)) (neither-second (not (isHeld k key)) leaves e))
+
+  -- A finished handover has let every key go.
+  pub handed-finished : (n key : ℕ) (k : Keys) → handedFrom n key k m types .unfinished ≡ false → (j : ℕ) → key ≤ j → j < key + n
+      → getD (handedFrom n key k m types .keys .held) j 0 ≡ 0
+  handed-finished zero key k done j low high = absurd (omega arith)
+  handed-finished (suc n) key k done j low high =
+      step (λ (h : Handed). h .unfinished ≡ false → getD (h .keys .held) j 0 ≡ 0) n key k
+      (λ on e. go (ℕ-discrete j key) (handed-finished n (suc key) (passed k key) e j))
+      (λ up stuck e. let no : _≡_ {A = ℕ} 0 1 = cc in absurd (omega arith))
+      done
+    where
+      go : Dec (j ≡ key)
+          → (suc key ≤ j → j < suc key + n → getD (handedFrom n (suc key) (passed k key) m types .keys .held) j 0 ≡ 0)
+          → getD (handedFrom n (suc key) (passed k key) m types .keys .held) j 0 ≡ 0
+      go (yes e) later = passed-gone n key k j e
+      go (no e) later = later (omega arith) (omega arith)
+
+  pub handed-all : (k : Keys) → Outside (k .held) → handedFrom 104 1 k m types .unfinished ≡ false
+      → (j : ℕ) → getD (handedFrom 104 1 k m types .keys .held) j 0 ≡ 0
+  handed-all k out done zero = handed-down 104 1 k 0 (out 0 (inl refl))
+  handed-all k out done (suc j) = go (leb (suc j) 104) refl
+    where
+      go : (b : Bool) → leb (suc j) 104 ≡ b → getD (handedFrom 104 1 k m types .keys .held) (suc j) 0 ≡ 0
+      go true e = handed-finished 104 1 k done (suc j) (omega arith) (omega (arith, leb-true (suc j) 104 e))
+      go false e = handed-down 104 1 k (suc j) (out (suc j) (inr (leb-false (suc j) 104 e)))
+
+  -- No flag changes but those of the keys that it is about.
+  pub handed-others : (n key : ℕ) (k : Keys) (j : ℕ) → (j < key) ⊎ (key + n ≤ j)
+      → getD (handedFrom n key k m types .keys .held) j 0 ≡ getD (k .held) j 0
+  unfolding handedFrom
+  handed-others zero key k j out = refl
+  handed-others (suc n) key k j out =
+      let other : j ≡ key → ⊥ = λ e. ⊎-elim (λ l. omega arith) (λ l. omega arith) out in
+      let further : (j < suc key) ⊎ (suc key + n ≤ j) = ⊎-elim (λ l. inl (omega arith)) (λ l. inr (omega arith)) out in
+      step (λ (h : Handed). getD (h .keys .held) j 0 ≡ getD (k .held) j 0) n key k
+      (λ on. handed-others n (suc key) (passed k key) j further ∙ passed-other k key j other)
+      (λ up stuck. refl)
+
+  -- Where it stops there is no room: more than half the queue waits,
+  pub handed-waits : (n key : ℕ) (k : Keys) → handedFrom n key k m types .unfinished ≡ true
+      → 9 ≤ length (waiting (handedFrom n key k m types .keys .queue))
+  unfolding handedFrom
+  handed-waits zero key k e = let no : _≡_ {A = ℕ} 0 1 = cc in omega arith
+  handed-waits (suc n) key k e =
+      step (λ (h : Handed). h .unfinished ≡ true → 9 ≤ length (waiting (h .keys .queue))) n key k
+      (λ on. handed-waits n (suc key) (passed k key))
+      (λ up stuck e.
+      let bytes = sends k m (getD types key 0) key Release in
+      no-room-waits 0 (waiting (k .queue)) bytes stuck (sends-short k m (getD types key 0) key Release))
+      e
+
+  -- and some key is still held: the lowest of them is next.
+  pub handed-still-held : (n key : ℕ) (k : Keys) → handedFrom n key k m types .unfinished ≡ true
+      → Lowest (handedFrom n key k m types .keys .held) key (key + n)
+  unfolding handedFrom
+  handed-still-held zero key k e = let no : _≡_ {A = ℕ} 0 1 = cc in absurd (omega arith)
+  handed-still-held (suc n) key k e =
+      step (λ (h : Handed). h .unfinished ≡ true → Lowest (h .keys .held) key (key + suc n)) n key k
+      (λ on e.
+      let l = handed-still-held n (suc key) (passed k key) e in
+      record {
+        key = l .key;
+        from = omega (arith, l .from);
+        below = omega (arith, l .below);
+        up = l .up;
+        none = λ j low high. go j (l .none) low high (ℕ-discrete j key);
+      })
+      (λ up stuck e. record {
+        key = key;
+        from = omega arith;
+        below = omega arith;
+        up = held-up k key up;
+        none = λ j low high. absurd (omega arith);
+      })
+      e
+    where
+      go : (j : ℕ) {upper : ℕ}
+          → ((i : ℕ) → suc key ≤ i → i < upper → getD (handedFrom n (suc key) (passed k key) m types .keys .held) i 0 ≡ 0)
+          → key ≤ j → j < upper → Dec (j ≡ key) → getD (handedFrom n (suc key) (passed k key) m types .keys .held) j 0 ≡ 0
+      go j later low high (yes e) = passed-gone n key k j e
+      go j later low high (no e) = later j (omega arith) high
+
+  -- A key that can leave, with none held before it, leaves.
+  pub handed-leaves : (n key : ℕ) (k : Keys) (j : ℕ) → key ≤ j → j < key + n → ((i : ℕ) → key ≤ i → i < j → getD (k .held) i 0 ≡ 0)
+      → canLeave k m types j ≡ true → getD (handedFrom n key k m types .keys .held) j 0 ≡ 0
+  handed-leaves zero key k j low high none leaves = absurd (omega arith)
+  handed-leaves (suc n) key k j low high none leaves =
+      go (ℕ-discrete j key) (λ l. handed-leaves n (suc key) k j l (omega arith) (λ i h. none i (omega arith)) leaves)
+    where
+      go : Dec (j ≡ key) → (suc key ≤ j → getD (handedFrom n (suc key) k m types .keys .held) j 0 ≡ 0)
+          → getD (handedFrom (suc n) key k m types .keys .held) j 0 ≡ 0
+      go (yes e) later =
+          step (λ (h : Handed). getD (h .keys .held) j 0 ≡ 0) n key k
+          (λ on. passed-gone n key k j e)
+          (λ up stuck. cc)
+      go (no e) later =
+          step (λ (h : Handed). getD (h .keys .held) j 0 ≡ 0) n key k
+          (λ on. rw (passed-still k key (none key (omega arith) (omega arith))) (later (omega arith)))
+          (λ up stuck. absurd (held-up k key up (none key (omega arith) (omega arith))))
+
+  -- So no handover adds to the held keys, and one that has room takes one away.
+  pub handed-no-more : (n key : ℕ) (k : Keys) → heldCount (handedFrom n key k m types .keys .held) ≤ heldCount (k .held)
+  handed-no-more n key k = no-more-held (k .held) _ (handed-any n key k) 104
+
+  pub handed-lowers : (n key : ℕ) (k : Keys) (l : Lowest (k .held) key (key + n)) → 1 ≤ key → key + n ≤ 105
+      → canLeave k m types (l .key) ≡ true → heldCount (handedFrom n key k m types .keys .held) < heldCount (k .held)
+  handed-lowers n key k l some most leaves =
+      fewer-held (k .held) _ (handed-any n key k) (l .key) (omega (arith, l .from)) (l .up)
+      (handed-leaves n key k (l .key) (l .from) (l .below) (l .none) leaves) 104 (omega (arith, l .below))
+
+  -- It has room for any key's release while at most half the queue waits.
+  pub handed-room : (k : Keys) (key : ℕ) → length (waiting (k .queue)) ≤ 8 → canLeave k m types key ≡ true
+  handed-room k key h =
+      let bytes = sends k m (getD types key 0) key Release in
+      le-leb (length (waiting (k .queue)) + length bytes) 16 (omega (arith, sends-short k m (getD types key 0) key Release))

@@ -1,0 +1,49 @@
+-- What the flags of the held keys have to do with the contacts, with the map and with the key that repeats. Assumes nothing.
+use Prim.Native.Nat.{ℕ, zero, suc, _+_, _≤_, _<_}
+use mathlib.Core.Path.{_≡_}
+use mathlib.Core.Logic.{_⊎_}
+use mathlib.Core.List.{List}
+use lib.Dec.{eqb}
+use lib.ListN.{getD}
+use Rattle.basics.specs.Choice.{pick}
+use Rattle.contacts.specs.Scans.{contact}
+use Rattle.record.specs.declared.Keys.{Keys}
+
+-- The held keys are those whose contacts count as closed; a key that stands nowhere on the map is not held.
+pub record Agrees (map closed held : List ℕ) : Type 0 where
+  pub mapped : (position : ℕ) → position < 144 → (getD map position 0 ≡ 0 → ⊥) → getD held (getD map position 0) 0 ≡ contact closed position
+  pub unmapped : (key : ℕ)
+      → ((position : ℕ) → position < 144 → (getD map position 0 ≡ 0 → ⊥) → getD map position 0 ≡ key → ⊥) → getD held key 0 ≡ 0
+
+-- No key stands at two positions of a map.
+abbrev pub Once : List ℕ → Type 0
+Once map = (p q : ℕ) → p < 144 → q < 144 → getD map p 0 ≡ getD map q 0 → (getD map p 0 ≡ 0 → ⊥) → p ≡ q
+
+-- No flag is up where there is no key.
+abbrev pub Outside : List ℕ → Type 0
+Outside held = (key : ℕ) → (key ≡ 0) ⊎ (104 < key) → getD held key 0 ≡ 0
+
+-- The key that repeats, if one does, is held.
+abbrev pub Repeats : Keys → Type 0
+Repeats k = (k .repeating ≡ 0) ⊎ (getD (k .held) (k .repeating) 0 ≡ 1)
+
+-- The lowest held key among those from `first` on and below `bound`.
+pub record Lowest (held : List ℕ) (first bound : ℕ) : Type 0 where
+  pub key : ℕ
+  pub from : first ≤ key
+  pub below : key < bound
+  pub up : getD held key 0 ≡ 0 → ⊥
+  pub none : (j : ℕ) → first ≤ j → j < key → getD held j 0 ≡ 0
+
+-- A flag that is up counts 1.
+abbrev pub counted : ℕ → ℕ
+counted flag = pick (eqb flag 0) 0 1
+
+-- How many of the keys 1 to n are held,
+unfoldable pub heldTo : ℕ → List ℕ → ℕ
+heldTo zero held = 0
+heldTo (suc n) held = heldTo n held + counted (getD held (suc n) 0)
+
+-- and of all keys.
+abbrev pub heldCount : List ℕ → ℕ
+heldCount held = heldTo 104 held
