@@ -93,19 +93,6 @@ fn keep(input: &mut [u8], from: usize, end: usize) -> usize
     n
 }
 
-// The last line, if it has no newline and is not empty.
-fn finish(d: Dock, line: &[u8], out: &mut [u8])
-    requires { ⌜ length (now out) ≡ 65536 ⌝ }
-{
-    if line.len() == 0 {
-        return;
-    }
-    let r = lines::step(d, line);
-    let printed = r.printed;
-    let n = put(out, 0, printed);
-    io::write_all(STDOUT_FILENO, &out[..n]);
-}
-
 // Runs what is at hand: the characters kept, and those that came after them.
 fn work(d: Dock, input: &mut [u8], out: &mut [u8], end: usize) -> Turn
     requires { ⌜ (end ≤ 16384) × (length (now input) ≡ 16384) × (length (now out) ≡ 65536) ⌝ }
@@ -120,22 +107,31 @@ fn work(d: Dock, input: &mut [u8], out: &mut [u8], end: usize) -> Turn
     Turn { dock, kept, going }
 }
 
-// Reads once, and runs what came. Where nothing comes any more, the last line is run.
+// The end of what is at hand after a read: where nothing comes any more, a last line that is not empty gets its newline.
+fn end_after(input: &mut [u8], kept: usize, got: isize) -> usize
+    requires { ⌜ (kept ≤ 289) × (length (now input) ≡ 16384) ⌝ }
+    ensures { λ r. ⌜ r ≤ 16384 ⌝ }
+{
+    if 0 < got {
+        return kept + io::count(got, &input[kept..]);
+    }
+    if kept == 0 {
+        return 0;
+    }
+    input[kept] = b'\n';
+    kept + 1
+}
+
+// Reads once, and runs what came. When nothing comes any more, the last line was run.
 fn next(d: Dock, input: &mut [u8], out: &mut [u8], kept: usize) -> Turn
     requires { ⌜ (kept ≤ 289) × (length (now input) ≡ 16384) × (length (now out) ≡ 65536) ⌝ }
     ensures { λ r. ⌜ r .kept ≤ 289 ⌝ }
 {
     let got = libc::read(STDIN_FILENO, &mut input[kept..]);
-    if got <= 0 {
-        finish(d, &input[..kept], out);
-        return Turn {
-            dock: d,
-            kept: 0,
-            going: false,
-        };
-    }
-    let end = kept + io::count(got, &input[kept..]);
-    work(d, input, out, end)
+    let end = end_after(input, kept, got);
+    let mut t = work(d, input, out, end);
+    t.going = t.going & (0 < got);
+    t
 }
 
 // Turn after turn. A proved loop has to end, and nothing says that input does: the turns are more than any run uses up.

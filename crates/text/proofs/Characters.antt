@@ -1,6 +1,6 @@
 -- Characters that are digits: what one stands for, and how a loop with a flag finds out that a line has no others. Assumes nothing.
 use mathlib.Core.Path.{_≡_, refl, _∙_}
-use mathlib.Core.Bool.{Bool, true, false}
+use mathlib.Core.Bool.{Bool, true, false, _&&_}
 use mathlib.Core.List.{List, [], _∷_}
 use mathlib.Core.Logic.{_⊎_, inl, inr, ⊎-elim}
 use Prim.Native.Nat.{ℕ, zero, suc, _+_, _*_, _/_, _%_, _≤_, _<_}
@@ -12,7 +12,7 @@ use lib.Dec.{leb}
 use lib.ListN.{length, getD, drop, drop-of-length-le}
 use lib.Seq.{drop-cons}
 use Rattle.basics.specs.Choice.{both, between, either}
-use Rattle.basics.proofs.Flags.{flag-down, flag-stays, flag-tells, left-of-both, right-of-both}
+use Rattle.basics.proofs.Flags.{flag-tells, left-of-both, right-of-both}
 use Rattle.text.specs.Digits.{isDigit, valueOf, allDigits}
 
 -- A digit is one of the characters 48 to 57, or one of 65 to 70.
@@ -47,16 +47,14 @@ value-at-below-16 (c ∷ cs) (suc i) d = value-at-below-16 cs i (right-of-both (
 
 -- The loop: the line is all digits if the characters so far were, and those from p on are.
 module _ (line : List ℕ) (p : ℕ) (flag : Bool) (i : allDigits line ≡ both flag (allDigits (drop p line))) where
-  module _ (h : p < length line) (b : Bool) (e : b ≡ isDigit (getD line p 0)) (r : Bool) where
-    next : allDigits line ≡ both flag (both b (allDigits (drop (p + 1) line)))
+  module _ (h : p < length line) (b : Bool) (e : b ≡ isDigit (getD line p 0)) where
+    pub digits-more : allDigits line ≡ both (flag && b) (allDigits (drop (p + 1) line))
     unfolding allDigits
-    next = i ∙ rw (e, add-one, drop-cons line p 0)
-
-    pub digits-broken : b ≡ false → r ≡ false → allDigits line ≡ both r (allDigits (drop (p + 1) line))
-    digits-broken f g = flag-down (allDigits line) flag b (allDigits (drop (p + 1) line)) next r f g
-
-    pub digits-on : b ≡ true → r ≡ flag → allDigits line ≡ both r (allDigits (drop (p + 1) line))
-    digits-on t g = flag-stays (allDigits line) flag b (allDigits (drop (p + 1) line)) next r t g
+    digits-more = i ∙ rw (e, add-one, drop-cons line p 0) (joined flag (isDigit (getD line p 0)) (allDigits (drop (suc p) line)))
+      where
+        joined : (x y z : Bool) → both x (both y z) ≡ both (x && y) z
+        joined true y z = refl
+        joined false y z = refl
 
   pub digits-end : length line ≤ p → flag ≡ allDigits line
   unfolding allDigits

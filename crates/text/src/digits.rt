@@ -19,9 +19,7 @@ pub fn all_digits(line: &[u8]) -> bool
     let mut good = true;
     let mut i: usize = 0;
     while i < line.len() {
-        if !is_digit(line[i]) {
-            good = false;
-        }
+        good = good & is_digit(line[i]);
         i += 1;
     }
     good

@@ -2,14 +2,12 @@
 -- from i on are. The measure is what is left of the line. Assumes nothing.
 use Prim.Native.Nat.{_-_}
 use mathlib.Core.Path.{_≡_, refl}
-use mathlib.Core.Logic.{⊎-elim}
 use native.Mathlib.Omega.{arith}
 use borrow.Author.Needs.{needs}
-use borrow.Author.Tests.{not-true, not-false}
 use lib.ListN.{length, drop}
 use Rattle.basics.specs.Choice.{both}
 use Rattle.text.specs.Digits.{allDigits}
-use Rattle.text.proofs.Characters.{digits-broken, digits-on, digits-end}
+use Rattle.text.proofs.Characters.{digits-more, digits-end}
 use Rattle.text.proofs.digits.all_digits.Statement.{statement}
 use Rattle.text.proofs.digits.all_digits.Tie as tie
 
@@ -36,13 +34,8 @@ loop-less c = omega arith
 
 loop-again : tie.Need-loop-again Inv-loop μ-loop
 loop-again c =
-    let t = c .before .before .before in
-    let l = t .before .loop in
-    let d = c .before .is-digit in
-    ⊎-elim
-    (λ w. digits-broken _ (l .i) (l .good) (l .inv) (t .loop-test .taken) _ (d .ensures) _ (not-true (d .result) (w .0 .taken)) (w .1))
-    (λ w. digits-on _ (l .i) (l .good) (l .inv) (t .loop-test .taken) _ (d .ensures) _ (not-false (d .result) (w .0 .left)) (w .1))
-    (c .if1 .came)
+    let t = c .before .before in
+    digits-more _ (t .before .loop .i) (t .before .loop .good) (t .before .loop .inv) (t .loop-test .taken) _ (c .is-digit .ensures)
 
 returns : tie.Need-returns Inv-loop μ-loop
 returns c = digits-end _ (c .before .loop .i) _ (c .before .loop .inv) (c .loop-test .left)
