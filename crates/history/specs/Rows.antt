@@ -1,7 +1,7 @@
 -- When scans say that a contact is closed (docs/RULES.md, section 5). A list says what they showed of it, 1 closed or 0 open, in the
 -- order in which they came. Assumes nothing.
 use Prim.Native.Nat.{ℕ}
-use mathlib.Core.Bool.{Bool, true, false, not}
+use mathlib.Core.Bool.{Bool, false, not}
 use mathlib.Core.List.{List, [], _∷_}
 use lib.Dec.{eqb}
 use lib.ListN.{drop}

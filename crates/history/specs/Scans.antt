@@ -1,7 +1,7 @@
 -- What a list of counted scans, in the order in which they came, says of contacts and of keys (docs/RULES.md, section 5). Assumes
 -- nothing.
 use Prim.Native.Nat.{ℕ, suc}
-use mathlib.Core.Bool.{Bool, true, false}
+use mathlib.Core.Bool.{Bool, false}
 use mathlib.Core.List.{List, [], _∷_, map}
 use lib.Dec.{eqb}
 use lib.ListN.{replicate}

@@ -12,8 +12,8 @@ use Rattle.keying.specs.Repeat.{ticked}
 use Rattle.record.specs.declared.Dock.{Dock}
 use Rattle.telling.specs.Overruns.{overrunsTo}
 use Rattle.terminal.specs.Terminals.{begun}
-use Rattle.agreement.specs.Calls.{Call, Scan, Swap, Frame, Read, isClearingCall}
-use Rattle.agreement.specs.Worlds.{World, world, next}
+use Rattle.runs.specs.Calls.{Call, Scan, Swap, Frame, Read, isClearingCall}
+use Rattle.runs.specs.Worlds.{World, world, next}
 
 -- Where the terminal may begin: nothing waits, no key is held, no command waits for its value, and set 1 or 2 is chosen.
 unfoldable pub mayBegin : Dock → Bool

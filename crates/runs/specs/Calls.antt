@@ -37,13 +37,9 @@ carries property (Byte byte) = property byte
 carries property Broken = false
 carries property TooLarge = false
 
--- A frame whose byte clears the queue,
+-- A frame whose byte clears the queue.
 unfoldable pub isClearing : ℕ → Bool
 isClearing number = carries clears (unpackedOf number)
-
--- and one whose byte is FF, the reset.
-unfoldable pub isReset : ℕ → Bool
-isReset number = carries (λ byte. eqb byte 0xff) (unpackedOf number)
 
 -- A call that clears the queue.
 abbrev pub isClearingCall : Call → Bool

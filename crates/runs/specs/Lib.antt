@@ -1,3 +1,5 @@
 pub mod Calls
 pub mod Worlds
 pub mod Runs
+pub mod Stories
+pub mod Told

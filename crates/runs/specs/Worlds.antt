@@ -3,6 +3,7 @@
 use Prim.Native.Nat.{ℕ}
 use mathlib.Core.Bool.{Bool}
 use mathlib.Core.List.{List, [], _∷_, _++_}
+use lib.Dec.{eqb}
 use Rattle.basics.specs.Choice.{pick, both}
 use Rattle.dock.specs.declared.Given.{Given}
 use Rattle.dock.specs.declared.Given.the-variants.{Nothing, Reply, KeyByte, Refused}
@@ -10,11 +11,12 @@ use Rattle.dock.specs.Scan.{isCounted, scanOf}
 use Rattle.dock.specs.Swap.{swapOf}
 use Rattle.dock.specs.Frame.{frameOf}
 use Rattle.dock.specs.Read.{readOf}
+use Rattle.frames.specs.Frames.{unpackedOf}
 use Rattle.history.specs.Scans.{saysHeld}
 use Rattle.record.specs.declared.Dock.{Dock}
 use Rattle.record.specs.Power.{powerOn}
 use Rattle.terminal.specs.Terminals.{Terminal, begun, hears}
-use Rattle.agreement.specs.Calls.{Call, Scan, Swap, Frame, Read, isAccepted, isReset}
+use Rattle.runs.specs.Calls.{Call, Scan, Swap, Frame, Read, isAccepted, carries}
 
 -- The scans are those counted since the last power-on, reset or swap, in the order in which they came.
 pub record World : Type 0 where
@@ -37,7 +39,10 @@ scansAfterScan d scans scan = pick (both (isAccepted (scanOf d scan .answer)) (i
 unfoldable pub scansAfterSwap : Dock → List (List ℕ) → List ℕ → List (List ℕ)
 scansAfterSwap d scans map = pick (isAccepted (swapOf d map .answer)) [] scans
 
--- nor after a frame that brought a reset.
+-- nor after a frame that brought FF, the reset.
+unfoldable pub isReset : ℕ → Bool
+isReset number = carries (λ byte. eqb byte 0xff) (unpackedOf number)
+
 unfoldable pub scansAfterFrame : Dock → List (List ℕ) → ℕ → List (List ℕ)
 scansAfterFrame d scans number = pick (both (isAccepted (frameOf d number .answer)) (isReset number)) [] scans
 
@@ -58,9 +63,9 @@ next w Read =
     world (taken .dock) (w .scans) (takes (w .dock .mode .set) (taken .given) (w .terminal))
 
 -- Any calls, one after the other.
-unfoldable pub after : World → List Call → World
-after w [] = w
-after w (call ∷ calls) = after (next w call) calls
+unfoldable pub afterCalls : World → List Call → World
+afterCalls w [] = w
+afterCalls w (call ∷ calls) = afterCalls (next w call) calls
 
 -- The keys that the counted scans say are held.
 abbrev pub scansSay : World → ℕ → Bool

@@ -1,0 +1,195 @@
+-- A frame leaves a settled dock settled, with no scan counted since a reset; and unless its byte clears the queue, the terminal goes on
+-- following. Assumes nothing.
+use mathlib.Core.Path.{_≡_, refl}
+use mathlib.Core.Logic.{_⊎_, inl, inr, ⊎-elim}
+use mathlib.Core.Bool.{Bool, true, false}
+use mathlib.Core.List.{List, [], _∷_}
+use Prim.Native.Nat.{ℕ, _-_, _≤_, _<_}
+use native.Mathlib.Omega.{arith}
+use borrow.Author.Tests.{eqb-true, eqb-false, leb-true, leb-false}
+use lib.Dec.{eqb, leb}
+use Rattle.basics.specs.Choice.{pick, both, either, between}
+use Rattle.basics.proofs.Flags.{left-of-both, right-of-both}
+use Rattle.dock.specs.Frame.{tookFrame, frameOf}
+use Rattle.frames.specs.declared.Unpacked.{Unpacked}
+use Rattle.frames.specs.declared.Unpacked.the-variants.{Byte, Broken, TooLarge}
+use Rattle.frames.specs.Frames.{unpackedOf}
+use Rattle.history.specs.Scans.{unseen, countedAll}
+use Rattle.host.specs.Commands.{replying, cleared, unrepeated, readied, enabled, defaulted, disabled, typed, restarted}
+use Rattle.host.specs.Commands.{obeyed, commanded, rightValue, valued, given, tookByte}
+use Rattle.keying.proofs.Kept.{picked}
+use Rattle.queue.proofs.Meaning.{places-queueOf}
+use Rattle.record.specs.declared.Dock.{Dock}
+use Rattle.record.specs.Parts.{withWaiting}
+use Rattle.record.specs.Power.{freshWith}
+use Rattle.record.specs.Range.{takesValue, inRange}
+use Rattle.runs.specs.Calls.{isAccepted, clears, carries, isClearing}
+use Rattle.runs.specs.Worlds.{isReset, scansAfterFrame}
+use Rattle.telling.proofs.Held.{none-agree, zeros-at, contact-open}
+use Rattle.telling.proofs.Cases.{by-cases, neither-first, neither-second}
+use Rattle.terminal.specs.Terminals.{Terminal}
+use Rattle.agreement.proofs.Following.{Follows, closing-follows}
+use Rattle.agreement.proofs.Ready.{IsReady, Settled, never, same-flags, closing-settled}
+
+module _ (scans : List (List ℕ)) where
+  -- No key byte waits any more; no key repeats.
+  cleared-ready : (d : Dock) → IsReady d scans → IsReady (cleared d) scans
+  cleared-ready d r =
+      same-flags (d .map) (d .contacts) (d .keys) (d .handover) scans r (cleared d .keys) refl (places-queueOf [] (omega arith)) (r .repeats)
+
+  unrepeated-ready : (d : Dock) → IsReady d scans → IsReady (unrepeated d) scans
+  unrepeated-ready d r =
+      same-flags (d .map) (d .contacts) (d .keys) (d .handover) scans r (unrepeated d .keys) refl (r .places .bytes) (inl refl)
+
+-- The dock after a reset.
+fresh-ready : (d : Dock) (scans : List (List ℕ)) → IsReady d scans → IsReady (restarted d) []
+unfolding freshWith countedAll unseen
+fresh-ready d scans r =
+    record {
+      long = r .long;
+      entries = r .entries;
+      single = r .single;
+      places = record { flags = refl; bytes = places-queueOf [] (omega arith) };
+      outside = λ key h. zeros-at 144 key;
+      repeats = inl refl;
+      seen = refl;
+      agree = λ shut. none-agree (d .map) _ _ (zeros-at 144) (λ position h. contact-open 18 position);
+      anew = λ begun. refl;
+    }
+
+module _ (d : Dock) (scans : List (List ℕ)) (r : IsReady d scans) (byte : ℕ) where
+  Fine : Dock → Type 0
+  Fine e = IsReady e scans
+
+  -- Any command but the reset.
+  obeyed-ready : eqb byte 0xff ≡ false → IsReady (obeyed byte d) scans
+  unfolding obeyed Fine
+  obeyed-ready other =
+      let clear : Fine (cleared d) = cleared-ready scans d r in
+      let calm : Fine (unrepeated (cleared d)) = unrepeated-ready scans (cleared d) clear in
+      picked Fine (eqb byte 0xf0) (readied d) _ calm
+      (picked Fine (eqb byte 0xf4) (enabled d) _ calm
+      (picked Fine (eqb byte 0xf5) (disabled d) _ calm
+      (picked Fine (eqb byte 0xf6) (defaulted d) _ calm
+      (picked Fine (between 0xf7 0xfa byte) (typed (byte - 0xf7) d) _ clear
+      (picked Fine (between 0xfb 0xfd byte) (cleared d) _ clear
+      (rw other r))))))
+
+  -- A value.
+  given-ready : IsReady (given byte d) scans
+  unfolding given valued Fine
+  given-ready =
+      picked Fine (rightValue (d .waiting) byte) _ _
+      (picked Fine (eqb (d .waiting) 0xed) _ _ r (picked Fine (eqb (d .waiting) 0xf0) _ _ r (picked Fine (eqb (d .waiting) 0xf3) _ _ r r)))
+      r
+
+  -- Any byte.
+  pub took-ready : IsReady (tookByte byte d) (pick (eqb byte 0xff) [] scans)
+  unfolding tookByte commanded obeyed Fine
+  took-ready = go (eqb byte 0xff) refl
+    where
+      go : (reset : Bool) → eqb byte 0xff ≡ reset → IsReady (tookByte byte d) (pick reset [] scans)
+      go true e = rw (eqb-true byte 0xff e) (fresh-ready d scans r)
+      go false e =
+          picked Fine (eqb byte 0xfe) (replying (d .given ∷ []) d) (pick (leb 0xed byte) (commanded byte d) (given byte d)) r
+          (picked Fine (leb 0xed byte) (commanded byte d) (given byte d) (obeyed-ready e) given-ready)
+
+-- The call, refused or not.
+pub frame-settled : (d : Dock) (scans : List (List ℕ)) (number : ℕ) → inRange d ≡ true → Settled d scans
+    → Settled (frameOf d number .dock) (scansAfterFrame d scans number)
+unfolding frameOf scansAfterFrame isReset tookFrame
+frame-settled d scans number range s = rw range (go (unpackedOf number))
+  where
+    go : (u : Unpacked)
+        → Settled (tookFrame u d .dock) (pick (both (isAccepted (tookFrame u d .answer)) (carries (λ byte. eqb byte 0xff) u)) [] scans)
+    go (Byte byte) = closing-settled (tookByte byte d) (pick (eqb byte 0xff) [] scans) (took-ready d scans (s .ready) byte)
+    go Broken = closing-settled (replying (0xfe ∷ []) d) scans (s .ready)
+    go TooLarge = s
+
+-- A byte that does not clear the queue, in numbers.
+record Mild (byte : ℕ) : Type 0 where
+  not-f0 : byte ≡ 0xf0 → ⊥
+  apart : (byte < 0xf4) ⊎ (0xfd < byte)
+  not-ff : byte ≡ 0xff → ⊥
+
+mild : (byte : ℕ) → clears byte ≡ false → Mild byte
+unfolding clears
+mild byte c =
+    let inside = between 0xf4 0xfd byte in
+    let rest = neither-second (eqb byte 0xf0) (either inside (eqb byte 0xff)) c in
+    record {
+      not-f0 = eqb-false byte 0xf0 (neither-first (eqb byte 0xf0) (either inside (eqb byte 0xff)) c);
+      apart = go (leb 0xf4 byte) (leb byte 0xfd) refl refl (neither-first inside (eqb byte 0xff) rest);
+      not-ff = eqb-false byte 0xff (neither-second inside (eqb byte 0xff) rest);
+    }
+  where
+    go : (low high : Bool) → leb 0xf4 byte ≡ low → leb byte 0xfd ≡ high → both low high ≡ false → (byte < 0xf4) ⊎ (0xfd < byte)
+    go false high l h none = inl (leb-false 0xf4 byte l)
+    go true false l h none = inr (leb-false byte 0xfd h)
+    go true true l h none = never true refl none
+
+module _ (d : Dock) (t : Terminal) (f : Follows d t) (byte : ℕ) where
+  -- A number between two of those that clear is not mild.
+  inside : Mild byte → (low high : ℕ) → 0xf4 ≤ low → high ≤ 0xfd → between low high byte ≡ true → ⊥
+  inside m low high a b h =
+      let from = leb-true low byte (left-of-both (leb low byte) (leb byte high) h) in
+      let to = leb-true byte high (right-of-both (leb low byte) (leb byte high) h) in
+      ⊎-elim (λ l. omega arith) (λ l. omega arith) (m .apart)
+
+  equal : Mild byte → (n : ℕ) → 0xf4 ≤ n → n ≤ 0xfd → eqb byte n ≡ true → ⊥
+  equal m n a b h = let is = eqb-true byte n h in ⊎-elim (λ l. omega arith) (λ l. omega arith) (m .apart)
+
+  -- A mild command changes no part that matters.
+  obeyed-mild : Mild byte → obeyed byte d ≡ d
+  unfolding obeyed
+  obeyed-mild m =
+      let Same : Dock → Type 0 = λ (e : Dock). e ≡ d in
+      by-cases Same (eqb byte 0xf0) _ _ (λ h. absurd (m .not-f0 (eqb-true byte 0xf0 h)))
+      (λ h. by-cases Same (eqb byte 0xf4) _ _ (λ h. absurd (equal m 0xf4 (omega arith) (omega arith) h))
+      (λ h. by-cases Same (eqb byte 0xf5) _ _ (λ h. absurd (equal m 0xf5 (omega arith) (omega arith) h))
+      (λ h. by-cases Same (eqb byte 0xf6) _ _ (λ h. absurd (equal m 0xf6 (omega arith) (omega arith) h))
+      (λ h. by-cases Same (between 0xf7 0xfa byte) _ _ (λ h. absurd (inside m 0xf7 0xfa (omega arith) (omega arith) h))
+      (λ h. by-cases Same (between 0xfb 0xfd byte) _ _ (λ h. absurd (inside m 0xfb 0xfd (omega arith) (omega arith) h))
+      (λ h. by-cases Same (eqb byte 0xff) _ _ (λ h. absurd (m .not-ff (eqb-true byte 0xff h))) (λ h. refl)))))))
+
+  commanded-follows : Mild byte → Follows (commanded byte d) t
+  unfolding commanded
+  commanded-follows m =
+      rw (obeyed-mild m)
+      (record {
+        chosen = f .chosen;
+        firm = picked (λ (n : ℕ). n ≡ 0xf0 → ⊥) (takesValue byte) byte 0 (m .not-f0) (λ e. omega arith);
+        told = f .told;
+      })
+
+  -- A value: only that of F0 chooses a set.
+  given-follows : Follows (given byte d) t
+  unfolding given valued
+  given-follows =
+      let Fine : Dock → Type 0 = λ (e : Dock). Follows (replying (0xfa ∷ []) (withWaiting e 0)) t in
+      let same : Follows (withWaiting d 0) t = record { chosen = f .chosen; firm = λ e. omega arith; told = f .told } in
+      picked (λ (e : Dock). Follows e t) (rightValue (d .waiting) byte) _ _
+      (picked Fine (eqb (d .waiting) 0xed) _ _ same
+      (by-cases Fine (eqb (d .waiting) 0xf0) _ _ (λ h. absurd (f .firm (eqb-true (d .waiting) 0xf0 h)))
+      (λ h.
+      picked Fine (eqb (d .waiting) 0xf3) _ _ same
+      same)))
+      f
+
+  took-follows : clears byte ≡ false → Follows (tookByte byte d) t
+  unfolding tookByte
+  took-follows c =
+      let Fine : Dock → Type 0 = λ (e : Dock). Follows e t in
+      picked Fine (eqb byte 0xfe) (replying (d .given ∷ []) d) _ f
+      (picked Fine (leb 0xed byte) (commanded byte d) (given byte d) (commanded-follows (mild byte c)) given-follows)
+
+-- The call, refused or not.
+pub frame-follows : (d : Dock) (t : Terminal) (number : ℕ) → inRange d ≡ true → isClearing number ≡ false → Follows d t
+    → Follows (frameOf d number .dock) t
+unfolding frameOf tookFrame isClearing
+frame-follows d t number range c f = rw range (go (unpackedOf number) c)
+  where
+    go : (u : Unpacked) → carries clears u ≡ false → Follows (tookFrame u d .dock) t
+    go (Byte byte) c = closing-follows (tookByte byte d) t (took-follows d t f byte c)
+    go Broken c = closing-follows (replying (0xfe ∷ []) d) t f
+    go TooLarge c = f

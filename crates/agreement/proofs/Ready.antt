@@ -1,0 +1,103 @@
+-- What is true of a dock and the scans it counted, whatever was called, and how every accepted call ends. Assumes nothing.
+use mathlib.Core.Path.{_≡_, ap, _∙_}
+use mathlib.Core.Bool.{Bool, true, false}
+use mathlib.Core.List.{List, []}
+use Prim.Native.Nat.{ℕ, _≤_, _<_}
+use native.Mathlib.Omega.{arith}
+use lib.ListN.{length}
+use Rattle.basics.specs.Lists.{allUpTo}
+use Rattle.contacts.specs.declared.Contacts.{Contacts}
+use Rattle.contacts.specs.Scans.{contact}
+use Rattle.dock.specs.Closing.{withHanded, closing}
+use Rattle.history.specs.Scans.{unseen, countedAll}
+use Rattle.history.proofs.Held.{one-place}
+use Rattle.keying.specs.Handover.{handedOver}
+use Rattle.keying.proofs.Places.{Places, handed-places}
+use Rattle.maps.specs.Maps.{hasDouble}
+use Rattle.queue.specs.Queues.{waiting}
+use Rattle.record.specs.declared.Keys.{Keys}
+use Rattle.record.specs.declared.Dock.{Dock}
+use Rattle.telling.specs.Agreeing.{Agrees, Once, Outside, Repeats}
+use Rattle.telling.proofs.Cases.{by-cases}
+use Rattle.telling.proofs.Held.{none-agree, contact-open}
+use Rattle.telling.proofs.Handing.{handed-outside, handed-all, handed-waits}
+use Rattle.telling.proofs.Repeating.{handed-repeat}
+
+-- The map is a map; the contacts are what the counted scans make of them; the held keys are those whose contacts are closed, unless a
+-- handover is open, and then no scan has been counted since the swap.
+pub record Ready (map : List ℕ) (contacts : Contacts) (keys : Keys) (handover : Bool) (scans : List (List ℕ)) : Type 0 where
+  pub long : length map ≡ 144
+  pub entries : allUpTo 104 map ≡ true
+  pub single : hasDouble map ≡ false
+  pub places : Places keys
+  pub outside : Outside (keys .held)
+  pub repeats : Repeats keys
+  pub seen : contacts ≡ countedAll unseen scans
+  pub agree : handover ≡ false → Agrees map (contacts .closed) (keys .held)
+  pub anew : handover ≡ true → scans ≡ []
+
+abbrev pub IsReady : Dock → List (List ℕ) → Type 0
+IsReady d scans = Ready (d .map) (d .contacts) (d .keys) (d .handover) scans
+
+-- After a call moreover: where a handover is open, more than half the queue waits.
+pub record Settled (d : Dock) (scans : List (List ℕ)) : Type 0 where
+  pub ready : IsReady d scans
+  pub waits : d .handover ≡ true → 9 ≤ length (waiting (d .keys .queue))
+
+-- Other keys with the same flags will do.
+pub same-flags : (map : List ℕ) (contacts : Contacts) (k : Keys) (handover : Bool) (scans : List (List ℕ)) → Ready map contacts k handover scans
+    → (l : Keys) → l .held ≡ k .held → length (l .queue .bytes) ≡ 16 → Repeats l → Ready map contacts l handover scans
+same-flags map contacts k handover scans r l same bytes repeats =
+    record {
+      long = r .long;
+      entries = r .entries;
+      single = r .single;
+      places = record { flags = rw same (r .places .flags); bytes = bytes };
+      outside = rw same (r .outside);
+      repeats = repeats;
+      seen = r .seen;
+      agree = λ shut. rw same (r .agree shut);
+      anew = r .anew;
+    }
+
+-- Nothing is both.
+pub never : {A : Type 0} (b : Bool) → b ≡ true → b ≡ false → A
+never b t f = let no : _≡_ {A = ℕ} 0 1 = cc in absurd (omega arith)
+
+pub at-once : (map : List ℕ) → length map ≡ 144 → hasDouble map ≡ false → Once map
+at-once map long single p q hp hq same some = one-place map single p q (omega arith) (omega arith) same some
+
+-- Contacts of which no scan says anything are open.
+pub all-open : (contacts : Contacts) (scans : List (List ℕ)) → contacts ≡ countedAll unseen scans → scans ≡ []
+    → (position : ℕ) → position < 144 → contact (contacts .closed) position ≡ 0
+unfolding countedAll unseen
+all-open contacts scans seen none position h =
+    ap (λ (k : Contacts). contact (k .closed) position) (seen ∙ ap (countedAll unseen) none) ∙ contact-open 18 position
+
+-- With no handover open a dock that is ready is settled.
+pub shut-settled : (d : Dock) (scans : List (List ℕ)) → d .handover ≡ false → IsReady d scans → Settled d scans
+shut-settled d scans shut r = record { ready = r; waits = λ opened. never (d .handover) opened shut }
+
+-- Every accepted call ends so that the dock is settled.
+pub closing-settled : (d : Dock) (scans : List (List ℕ)) → IsReady d scans → Settled (closing d) scans
+unfolding closing
+closing-settled d scans r =
+    let h = handedOver (d .keys) (d .mode) (d .types) in
+    by-cases (λ (e : Dock). Settled e scans) (d .handover) (withHanded d h) d
+    (λ opened. record {
+      ready = record {
+        long = r .long;
+        entries = r .entries;
+        single = r .single;
+        places = handed-places (d .mode) 104 1 (d .keys) (d .types) (r .places);
+        outside = handed-outside (d .mode) (d .types) 104 1 (d .keys) (r .outside);
+        repeats = handed-repeat (d .mode) 104 1 (d .keys) (d .types) (r .repeats);
+        seen = r .seen;
+        agree = λ done. none-agree (d .map) (d .contacts .closed) (h .keys .held)
+            (handed-all (d .mode) (d .types) (d .keys) (r .outside) done)
+            (all-open (d .contacts) scans (r .seen) (r .anew opened));
+        anew = λ unfinished. r .anew opened;
+      };
+      waits = handed-waits (d .mode) (d .types) 104 1 (d .keys);
+    })
+    (λ shut. shut-settled d scans shut r)

@@ -1,0 +1,193 @@
+-- A scan leaves a settled dock settled, and unless it overruns the queue the terminal goes on following. Assumes nothing.
+use mathlib.Core.Path.{_≡_, refl, sym, ap, _∙_}
+use mathlib.Core.Bool.{Bool, true, false, not}
+use mathlib.Core.List.{List, [], _∷_, _++_}
+use Prim.Native.Nat.{ℕ}
+use borrow.Author.Tests.{not-true, eqb-true}
+use lib.Dec.{eqb}
+use lib.ListN.{length}
+use Rattle.basics.specs.Choice.{pick, both}
+use Rattle.basics.proofs.Flags.{right-of-both}
+use Rattle.contacts.specs.declared.Contacts.{Contacts}
+use Rattle.contacts.specs.Phantom.{isPhantom}
+use Rattle.contacts.specs.Counts.{countedOf}
+use Rattle.dock.specs.Answers.{answered}
+use Rattle.dock.specs.declared.Answer.the-variants.{Accepted, ScanLength}
+use Rattle.dock.specs.Closing.{closing}
+use Rattle.dock.specs.Scan.{listening, isCounted, counting, changed, quiet, repeating, heardScan, scanned, scanOf}
+use Rattle.history.specs.Scans.{unseen}
+use Rattle.history.proofs.Counters.{counted-again}
+use Rattle.keying.specs.Moves.{turnsTo}
+use Rattle.keying.specs.Repeat.{ticked, repeated}
+use Rattle.keying.proofs.Places.{turns-places, repeated-places}
+use Rattle.record.specs.declared.Keys.{Keys}
+use Rattle.record.specs.declared.Dock.{Dock}
+use Rattle.record.specs.Parts.{withKeys}
+use Rattle.record.specs.Range.{inRange}
+use Rattle.runs.specs.Calls.{isAccepted}
+use Rattle.runs.specs.Runs.{overruns}
+use Rattle.runs.specs.Worlds.{scansAfterScan}
+use Rattle.telling.specs.Overruns.{overrunsTo}
+use Rattle.telling.proofs.Held.{turns-agree}
+use Rattle.telling.proofs.Repeating.{turns-repeat, turns-outside, repeated-repeats, repeated-held}
+use Rattle.telling.proofs.Told.{ticked-told, turns-told, repeated-told}
+use Rattle.terminal.specs.Terminals.{Terminal}
+use Rattle.agreement.proofs.Following.{Follows, none-wait, repeats-within, closing-follows}
+use Rattle.agreement.proofs.Ready.{Ready, IsReady, Settled, never, same-flags, at-once, shut-settled, closing-settled}
+
+-- Scans are listened to only while no handover is open.
+pub listening-shut : (d : Dock) → listening d ≡ true → d .handover ≡ false
+unfolding listening
+listening-shut d h =
+    not-true (d .handover)
+    (right-of-both (eqb (d .waiting) 0) (not (d .handover)) (right-of-both (d .scanning) (both (eqb (d .waiting) 0) (not (d .handover))) h))
+
+module _ (d : Dock) (scans : List (List ℕ)) (shut : d .handover ≡ false) where
+  -- A tick.
+  ticked-ready : IsReady d scans → Ready (d .map) (d .contacts) (ticked (d .keys)) (d .handover) scans
+  ticked-ready r =
+      same-flags (d .map) (d .contacts) (d .keys) (d .handover) scans r (ticked (d .keys)) refl (r .places .bytes) (r .repeats)
+
+  -- The changes of a counted scan.
+  module _ (scan : List ℕ) (k : Keys) where
+    turned-ready : Ready (d .map) (d .contacts) k (d .handover) scans
+        → Ready (d .map) (countedOf (d .contacts) scan)
+        (turnsTo 144 (d .mode) (d .types) (d .map) (d .contacts .closed) (countedOf (d .contacts) scan .closed) k)
+        (d .handover) (scans ++ (scan ∷ []))
+    turned-ready r =
+        let was = d .contacts .closed in
+        let is = countedOf (d .contacts) scan .closed in
+        record {
+          long = r .long;
+          entries = r .entries;
+          single = r .single;
+          places = turns-places (d .mode) (d .types) (d .map) (r .entries) 144 was is k (r .places);
+          outside = turns-outside (d .mode) (d .types) (d .map) (r .entries) 144 was is k (r .outside);
+          repeats = turns-repeat (d .mode) (d .types) (d .map) (r .entries) 144 was is k (r .places .flags) (r .repeats);
+          seen = ap (λ (c : Contacts). countedOf c scan) (r .seen) ∙ sym (counted-again unseen scans scan);
+          agree = λ s. turns-agree (d .mode) (d .types) (d .map) was is k (r .places .flags) (r .entries)
+              (at-once (d .map) (r .long) (r .single)) (r .agree s);
+          anew = λ opened. never (d .handover) opened shut;
+        }
+
+-- The repeat.
+repeated-ready : (d : Dock) (scans : List (List ℕ)) → IsReady d scans → IsReady (repeating d) scans
+unfolding repeating
+repeated-ready d scans r =
+    same-flags (d .map) (d .contacts) (d .keys) (d .handover) scans r (repeated (d .keys) (d .mode) (d .types) (quiet d))
+    (repeated-held (d .mode) (d .keys) (d .types) (quiet d))
+    (repeated-places (d .mode) (d .keys) (d .types) (quiet d) (r .places) .bytes)
+    (repeated-repeats (d .mode) (d .keys) (d .types) (quiet d) (r .repeats))
+
+-- A scan that is listened to.
+heard-settled : (d : Dock) (scans : List (List ℕ)) (scan : List ℕ) → d .handover ≡ false → IsReady d scans
+    → Settled (heardScan d scan) (pick (not (isPhantom scan)) (scans ++ (scan ∷ [])) scans)
+unfolding heardScan changed counting repeating
+heard-settled d scans scan shut r = go (isPhantom scan)
+  where
+    still : Dock
+    still = withKeys d (ticked (d .keys))
+
+    longer : List (List ℕ)
+    longer = scans ++ (scan ∷ [])
+
+    ready : IsReady still scans
+    ready = ticked-ready d scans shut r
+
+    go : (phantom : Bool) → Settled (repeating (pick phantom still (counting still scan))) (pick (not phantom) longer scans)
+    go true = shut-settled (repeating still) scans shut (repeated-ready still scans ready)
+    go false =
+        shut-settled (repeating (counting still scan)) longer shut
+        (repeated-ready (counting still scan) longer (turned-ready d scans shut scan (ticked (d .keys)) ready))
+
+scanned-settled : (d : Dock) (scans : List (List ℕ)) (scan : List ℕ) → Settled d scans
+    → Settled (scanned d scan) (pick (isCounted d scan) (scans ++ (scan ∷ [])) scans)
+unfolding scanned isCounted
+scanned-settled d scans scan s = go (listening d) refl
+  where
+    go : (hears : Bool) → listening d ≡ hears
+        → Settled (pick hears (heardScan d scan) (closing d)) (pick (both hears (not (isPhantom scan))) (scans ++ (scan ∷ [])) scans)
+    go true e = heard-settled d scans scan (listening-shut d e) (s .ready)
+    go false e = closing-settled d scans (s .ready)
+
+-- The call, refused or not.
+pub scan-settled : (d : Dock) (scans : List (List ℕ)) (scan : List ℕ) → inRange d ≡ true → Settled d scans
+    → Settled (scanOf d scan .dock) (scansAfterScan d scans scan)
+unfolding scanOf scansAfterScan
+scan-settled d scans scan range s = rw range (go (eqb (length scan) 18))
+  where
+    go : (whole : Bool)
+        → Settled ((pick whole (answered Accepted (scanned d scan)) (answered ScanLength d)) .dock)
+        (pick (both (isAccepted ((pick whole (answered Accepted (scanned d scan)) (answered ScanLength d)) .answer)) (isCounted d scan))
+        (scans ++ (scan ∷ [])) scans)
+    go true = scanned-settled d scans scan s
+    go false = s
+
+-- The terminal: a tick, the changes of a counted scan, and the repeat.
+module _ (t : Terminal) where
+  ticked-follows : (d : Dock) → Follows d t → Follows (withKeys d (ticked (d .keys))) t
+  ticked-follows d f =
+      record { chosen = f .chosen; firm = f .firm; told = ticked-told (d .mode .set) t (d .keys) (f .told) }
+
+  repeated-follows : (d : Dock) (scans : List (List ℕ)) → IsReady d scans → Follows d t → Follows (repeating d) t
+  unfolding repeating
+  repeated-follows d scans r f =
+      let q = d .keys .queue in
+      record {
+        chosen = f .chosen;
+        firm = f .firm;
+        told = repeated-told (d .mode) (f .chosen) t (d .types) (d .keys) (quiet d) (r .repeats) (repeats-within (d .keys) (r .outside) (r .repeats))
+            (λ e. none-wait q (eqb-true (q .length) 0 (right-of-both (eqb (d .replies .length) 0) (eqb (q .length) 0) e))) (f .told);
+      }
+
+  -- What turns in a scan, if it is counted.
+  Turns : Dock → List ℕ → Bool
+  Turns d scan =
+      overrunsTo 144 (d .mode) (d .types) (d .map) (d .contacts .closed) (countedOf (d .contacts) scan .closed) (ticked (d .keys))
+
+  counting-follows : (d : Dock) (scans : List (List ℕ)) (scan : List ℕ) → IsReady d scans → Turns d scan ≡ false → Follows d t
+      → Follows (counting (withKeys d (ticked (d .keys))) scan) t
+  unfolding counting Turns
+  counting-follows d scans scan r room f =
+      record {
+        chosen = f .chosen;
+        firm = f .firm;
+        told = turns-told (d .mode) (f .chosen) t (d .types) (d .map) (r .entries) 144 (d .contacts .closed)
+            (countedOf (d .contacts) scan .closed) (ticked (d .keys)) room (ticked-told (d .mode .set) t (d .keys) (f .told));
+      }
+
+  module _ (d : Dock) (scans : List (List ℕ)) (scan : List ℕ) (s : Settled d scans) (f : Follows d t) where
+    heard-follows : d .handover ≡ false → both (not (isPhantom scan)) (Turns d scan) ≡ false → Follows (heardScan d scan) t
+    unfolding heardScan changed counting
+    heard-follows shut = go (isPhantom scan)
+      where
+        still : Dock
+        still = withKeys d (ticked (d .keys))
+
+        ready : IsReady still scans
+        ready = ticked-ready d scans shut (s .ready)
+
+        go : (phantom : Bool) → both (not phantom) (Turns d scan) ≡ false → Follows (repeating (pick phantom still (counting still scan))) t
+        go true room = repeated-follows still scans ready (ticked-follows d f)
+        go false room =
+            repeated-follows (counting still scan) (scans ++ (scan ∷ [])) (turned-ready d scans shut scan (ticked (d .keys)) ready)
+            (counting-follows d scans scan (s .ready) room f)
+
+    scanned-follows : overruns d scan ≡ false → Follows (scanned d scan) t
+    unfolding scanned overruns isCounted Turns
+    scanned-follows = go (listening d) refl
+      where
+        go : (hears : Bool) → listening d ≡ hears → both (both hears (not (isPhantom scan))) (Turns d scan) ≡ false
+            → Follows (pick hears (heardScan d scan) (closing d)) t
+        go true e room = heard-follows (listening-shut d e) room
+        go false e room = closing-follows d t f
+
+    -- The call, refused or not.
+    pub scan-follows : inRange d ≡ true → both (eqb (length scan) 18) (overruns d scan) ≡ false → Follows (scanOf d scan .dock) t
+    unfolding scanOf
+    scan-follows range = rw range (go (eqb (length scan) 18))
+      where
+        go : (whole : Bool) → both whole (overruns d scan) ≡ false
+            → Follows ((pick whole (answered Accepted (scanned d scan)) (answered ScanLength d)) .dock) t
+        go true room = scanned-follows room
+        go false room = f

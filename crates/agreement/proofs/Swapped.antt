@@ -1,0 +1,103 @@
+-- A swap leaves a settled dock settled, with no scan counted since, and the terminal goes on following. Assumes nothing.
+use mathlib.Core.Path.{_≡_, refl, ap, _∙_}
+use mathlib.Core.Logic.{inl}
+use mathlib.Core.Bool.{Bool, true, false}
+use mathlib.Core.List.{List, []}
+use Prim.Native.Nat.{ℕ}
+use borrow.Author.Tests.{eqb-true}
+use lib.Dec.{eqb}
+use lib.ListN.{length}
+use Rattle.basics.specs.Choice.{pick}
+use Rattle.basics.specs.Lists.{allUpTo}
+use Rattle.dock.specs.declared.Answered.{Answered}
+use Rattle.dock.specs.declared.Answer.the-variants.{Accepted, MapLength, MapEntry, MapDouble}
+use Rattle.dock.specs.Answers.{answered}
+use Rattle.dock.specs.Swap.{opened, remapped, swapped, swapOf}
+use Rattle.history.specs.Scans.{unseen, countedAll}
+use Rattle.maps.specs.Maps.{hasDouble}
+use Rattle.record.specs.declared.Dock.{Dock}
+use Rattle.record.specs.Parts.{withMap}
+use Rattle.record.specs.Range.{inRange}
+use Rattle.runs.specs.Calls.{isAccepted}
+use Rattle.runs.specs.Worlds.{scansAfterSwap}
+use Rattle.telling.proofs.Cases.{by-cases}
+use Rattle.keying.proofs.Kept.{picked}
+use Rattle.terminal.specs.Terminals.{Terminal}
+use Rattle.agreement.proofs.Following.{Follows, closing-follows}
+use Rattle.agreement.proofs.Ready.{IsReady, Settled, never, closing-settled}
+
+module _ (d : Dock) (scans : List (List ℕ)) (s : Settled d scans) (map : List ℕ) where
+  -- The map is replaced, and if no handover is open, one is opened and the contact history dropped.
+  module _ (long : length map ≡ 144) (entries : allUpTo 104 map ≡ true) (single : hasDouble map ≡ false) where
+    remapped-ready : IsReady (remapped d map) []
+    unfolding remapped opened countedAll unseen
+    remapped-ready =
+        let r = s .ready in
+        by-cases (λ (e : Dock). IsReady e []) (d .handover) (withMap d map) (opened d map)
+        (λ begun. record {
+          long = long;
+          entries = entries;
+          single = single;
+          places = r .places;
+          outside = r .outside;
+          repeats = r .repeats;
+          seen = r .seen ∙ ap (countedAll unseen) (r .anew begun);
+          agree = λ shut. never (d .handover) begun shut;
+          anew = λ h. refl;
+        })
+        (λ shut. record {
+          long = long;
+          entries = entries;
+          single = single;
+          places = record { flags = r .places .flags; bytes = r .places .bytes };
+          outside = r .outside;
+          repeats = inl refl;
+          seen = refl;
+          agree = λ h. never true refl h;
+          anew = λ h. refl;
+        })
+
+  -- The call, refused or not.
+  pub swap-settled : inRange d ≡ true → Settled (swapOf d map .dock) (scansAfterSwap d scans map)
+  unfolding swapOf scansAfterSwap swapped
+  swap-settled range = rw range (length-first (eqb (length map) 144) refl)
+    where
+      Fine : Answered → Type 0
+      Fine a = Settled (a .dock) (pick (isAccepted (a .answer)) [] scans)
+
+      taken : Answered
+      taken = answered Accepted (swapped d map)
+
+      doubles-last : length map ≡ 144 → allUpTo 104 map ≡ true → (b : Bool) → hasDouble map ≡ b → Fine (pick b (answered MapDouble d) taken)
+      doubles-last l e true h = s
+      doubles-last l e false h = closing-settled (remapped d map) [] (remapped-ready l e h)
+
+      entries-next : length map ≡ 144 → (b : Bool) → allUpTo 104 map ≡ b
+          → Fine (pick b (pick (hasDouble map) (answered MapDouble d) taken) (answered MapEntry d))
+      entries-next l true h = doubles-last l h (hasDouble map) refl
+      entries-next l false h = s
+
+      length-first : (b : Bool) → eqb (length map) 144 ≡ b
+          → Fine (pick b (pick (allUpTo 104 map) (pick (hasDouble map) (answered MapDouble d) taken) (answered MapEntry d)) (answered MapLength d))
+      length-first true h = entries-next (eqb-true (length map) 144 h) (allUpTo 104 map) refl
+      length-first false h = s
+
+-- The terminal: a swap by itself queues nothing and releases no key.
+module _ (d : Dock) (t : Terminal) (map : List ℕ) (f : Follows d t) where
+  remapped-follows : Follows (remapped d map) t
+  unfolding remapped opened
+  remapped-follows =
+      picked (λ (e : Dock). Follows e t) (d .handover) (withMap d map) (opened d map)
+      f
+      (record { chosen = f .chosen; firm = f .firm; told = record { told = f .told .told } })
+
+  pub swap-follows : inRange d ≡ true → Follows (swapOf d map .dock) t
+  unfolding swapOf swapped
+  swap-follows range =
+      let Fine : Answered → Type 0 = λ (a : Answered). Follows (a .dock) t in
+      rw range
+      (picked Fine (eqb (length map) 144) _ _
+      (picked Fine (allUpTo 104 map) _ _
+      (picked Fine (hasDouble map) (answered MapDouble d) (answered Accepted (swapped d map)) f (closing-follows (remapped d map) t remapped-follows))
+      f)
+      f)

@@ -1,0 +1,40 @@
+-- Every story of demand 3 comes out as it is told: so its premises can be met, and this is what comes of them. Assumes nothing.
+use mathlib.Core.Path.{_≡_, refl}
+use lib.Count.{ones, onesIn}
+use mathlib.Core.List.{map}
+use Rattle.basics.specs.Lists.{allUpTo}
+use Rattle.record.specs.Power.{countUp, plainMap, defaultTypes, freshWith, powerOn}
+use Rattle.record.specs.Range.{inRange, goodMode, goodKeys}
+use Rattle.queue.specs.Queues.{waiting, queueOf, tidy, pushedTo, lastReplaced}
+use Rattle.keys.specs.Keys.{rows, rowOf, codeIn}
+use Rattle.lookup.specs.Lookup.{keyWith, firstWith}
+use Rattle.codes.specs.Codes.{encode, bytesOf, formOf, cursorForm, shiftForm, printForm, pauseForm, before, after, makeOf, breakOf, prefix, codeOf, sendsRelease, mayRepeat, pauseBytes}
+use Rattle.contacts.specs.Scans.{contact, same}
+use Rattle.contacts.specs.Phantom.{isPhantom, sharesAny}
+use Rattle.contacts.specs.Counts.{countedOf}
+use Rattle.keying.specs.Sending.{modifiersOf, sends, queuedOf}
+use Rattle.keying.specs.Moves.{pressed, releasedWith, released, moved, turned, turnsTo}
+use Rattle.keying.specs.Repeat.{delayOf, intervalOf, repeated}
+use Rattle.keying.specs.Handover.{handedFrom}
+use Rattle.frames.specs.Frames.{parity, frameOf as packedOf, whole, unpackedOf}
+use Rattle.host.specs.Commands.{obeyed, replyTo, commanded, rightValue, valued, given, tookByte}
+use Rattle.maps.specs.Maps.{isIn, hasDouble}
+use Rattle.dock.specs.Closing.{closing}
+use Rattle.dock.specs.Scan.{listening, isCounted, counting, changed, repeating, heardScan, scanned, scanOf}
+use Rattle.dock.specs.Swap.{opened, remapped, swapped, swapOf}
+use Rattle.dock.specs.Frame.{tookFrame, frameOf}
+use Rattle.dock.specs.Read.{remembering, replyTaken, keyByteTaken, read, readOf}
+use Rattle.reader.specs.Reader.{heard, inSet1, inSet2, inSet3, readByte}
+use Rattle.history.specs.Rows.{threeFirst, threeInARow, saysClosed}
+use Rattle.history.specs.Scans.{shownAt}
+use Rattle.telling.specs.Overruns.{lacksRoom, overrunsAt, overrunsTo}
+use Rattle.terminal.specs.Terminals.{begun, hears}
+use Rattle.runs.specs.Calls.{clears, isClearing}
+use Rattle.runs.specs.Worlds.{woken, isReset, scansAfterScan, scansAfterSwap, scansAfterFrame, next, afterCalls}
+use Rattle.runs.specs.Runs.{mayBegin, overruns, undisturbed}
+use Rattle.runs.specs.Stories.{Story, outcome, flagged, saidFrom, host, nothing, showing, showingToo}
+use Rattle.runs.specs.Told.{stories, limestone, heldOn, repeated as repeatedStory, leftAlone, shiftedCursor, shiftedCursorInSet1, twelve, longHandover, secondSwap, waitingCommand, thirdScan, pauseStruck, refusals}
+
+pub all-as-told : map (λ (s : Story). outcome (s .earlier) (s .calls)) stories ≡ map (λ (s : Story). s .end) stories
+unfolding ones onesIn allUpTo countUp plainMap defaultTypes freshWith powerOn inRange goodMode goodKeys waiting queueOf tidy pushedTo lastReplaced rows rowOf codeIn keyWith firstWith encode bytesOf formOf cursorForm shiftForm printForm pauseForm before after makeOf breakOf prefix codeOf sendsRelease mayRepeat pauseBytes contact same isPhantom sharesAny countedOf modifiersOf sends queuedOf pressed releasedWith released moved turned turnsTo delayOf intervalOf repeated handedFrom parity packedOf whole unpackedOf obeyed replyTo commanded rightValue valued given tookByte isIn hasDouble closing listening isCounted counting changed repeating heardScan scanned scanOf opened remapped swapped swapOf tookFrame frameOf remembering replyTaken keyByteTaken read readOf heard inSet1 inSet2 inSet3 readByte threeFirst threeInARow saysClosed shownAt lacksRoom overrunsAt overrunsTo begun hears clears isClearing isReset woken scansAfterScan scansAfterSwap scansAfterFrame next afterCalls mayBegin overruns undisturbed outcome flagged saidFrom host nothing showing showingToo stories limestone heldOn repeatedStory leftAlone shiftedCursor shiftedCursorInSet1 twelve longHandover secondSwap waitingCommand thirdScan pauseStruck refusals
+all-as-told = refl

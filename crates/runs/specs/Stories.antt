@@ -1,0 +1,86 @@
+-- Stories: calls up to a start, calls after it, and the keys that are down in the end (docs/RULES.md, section 13). Assumes nothing.
+use Prim.Native.Nat.{ℕ, suc}
+use mathlib.Core.Bool.{Bool, true}
+use mathlib.Core.List.{List, [], _∷_}
+use lib.Dec.{eqb}
+use lib.ListN.{replicate, set}
+use Rattle.basics.specs.Choice.{pick}
+use Rattle.dock.specs.Scan.{quiet}
+use Rattle.frames.specs.Frames.{frameOf}
+use Rattle.history.specs.Rows.{saysClosed}
+use Rattle.history.specs.Scans.{shownAt}
+use Rattle.runs.specs.Calls.{Call, Scan, Frame, Read}
+use Rattle.runs.specs.Worlds.{woken, afterCalls}
+use Rattle.runs.specs.Runs.{mayBegin, beginning, undisturbed}
+
+-- What the calls of a story come to: may the terminal begin, is it left undisturbed, does nothing wait in the end, which keys does it
+-- find down, and which do the scans say are held.
+pub record Outcome : Type 0 where
+  pub begins : Bool
+  pub quietly : Bool
+  pub empty : Bool
+  pub down : List ℕ
+  pub said : List ℕ
+
+-- The places, counted from i, of flags that are not 0.
+unfoldable pub flagged : ℕ → List ℕ → List ℕ
+flagged i [] = []
+flagged i (flag ∷ flags) = let rest = flagged (suc i) flags in pick (eqb flag 0) rest (i ∷ rest)
+
+-- The keys of a map, from a position on, whose contacts the scans say are closed.
+unfoldable pub saidFrom : ℕ → List ℕ → List (List ℕ) → List ℕ
+saidFrom position [] scans = []
+saidFrom position (key ∷ keys) scans =
+    let rest = saidFrom (suc position) keys scans in
+    pick (saysClosed (shownAt position scans)) (key ∷ rest) rest
+
+-- The outcome of calls after others since power-on.
+unfoldable pub outcome : List Call → List Call → Outcome
+outcome earlier calls =
+    let start = beginning (afterCalls woken earlier) in
+    let end = afterCalls start calls in
+    record {
+      begins = mayBegin (start .dock);
+      quietly = undisturbed start calls;
+      empty = quiet (end .dock);
+      down = flagged 0 (end .terminal .down);
+      said = saidFrom 0 (end .dock .map) (end .scans);
+    }
+
+-- All as demand 3 has it, with these keys down.
+abbrev pub agreeing : List ℕ → Outcome
+agreeing keys = record { begins = true; quietly = true; empty = true; down = keys; said = keys }
+
+-- The same but for PAUSE, which is held and is never down.
+abbrev pub pauseApart : Outcome
+pauseApart = record { begins = true; quietly = true; empty = true; down = []; said = 101 ∷ [] }
+
+-- Calls up to a start, calls after it, and what they come to.
+pub record Story : Type 0 where
+  pub earlier : List Call
+  pub calls : List Call
+  pub end : Outcome
+
+abbrev pub story : List Call → List Call → Outcome → Story
+story earlier calls end = record { earlier = earlier; calls = calls; end = end }
+
+-- So many reads; a byte from the host, and the read of its reply.
+abbrev pub reads : ℕ → List Call
+reads n = replicate n Read
+
+unfoldable pub host : ℕ → List Call
+host byte = Frame (frameOf byte) ∷ Read ∷ []
+
+-- So many scans that show the same.
+abbrev pub scans : ℕ → List ℕ → List Call
+scans n scan = replicate n (Scan scan)
+
+-- Scans of a plain panel with nothing closed, with one column like this, and with another column too.
+unfoldable pub nothing : List ℕ
+nothing = replicate 18 0
+
+unfoldable pub showing : ℕ → ℕ → List ℕ
+showing column rows = set (replicate 18 0) column rows
+
+unfoldable pub showingToo : ℕ → ℕ → List ℕ → List ℕ
+showingToo column rows scan = set scan column rows

@@ -1,0 +1,87 @@
+-- The stories that are told of demand 3 (docs/RULES.md, section 13). On a plain panel the 2, key 3, is row 2 of column 0; SHIFT_L is
+-- row 1 of column 5, UP row 0 of column 8, and PAUSE row 4 of column 12. Assumes nothing.
+use Prim.Native.Nat.{ℕ}
+use mathlib.Core.List.{List, [], _∷_, _++_}
+use lib.ListN.{replicate}
+use Rattle.record.specs.Power.{plainMap}
+use Rattle.runs.specs.Calls.{Scan, Swap, Frame}
+use Rattle.runs.specs.Stories.{Story, story, agreeing, pauseApart, reads, host, scans, nothing, showing, showingToo}
+
+-- The limestone: the 2 is held, its panel is swapped, and once all is read nothing is down.
+unfoldable pub limestone : Story
+limestone = story (reads 1) (scans 3 (showing 0 4) ++ reads 1 ++ Swap plainMap ∷ reads 2) (agreeing [])
+
+-- Without the swap it stays down, and a scan or two that show it open do not bring it up.
+unfoldable pub heldOn : Story
+heldOn =
+    story (reads 1)
+    (scans 3 (showing 0 4) ++ reads 1 ++ scans 2 nothing ++ scans 1 (showing 0 4) ++ scans 2 nothing)
+    (agreeing (3 ∷ []))
+
+-- A repeat is read as a press of the key that is down. The quickest rate is chosen: F3 00.
+unfoldable pub repeated : Story
+repeated =
+    story (reads 1 ++ host 0xf3 ++ host 0)
+    (scans 63 (showing 0 4) ++ reads 1 ++ scans 8 (showing 0 4) ++ reads 1)
+    (agreeing (3 ∷ []))
+
+-- After a swap nothing repeats, however long the new panel is left alone.
+unfoldable pub leftAlone : Story
+leftAlone =
+    story (reads 1 ++ host 0xf3 ++ host 0)
+    (scans 3 (showing 0 4) ++ reads 1 ++ Swap plainMap ∷ reads 2 ++ scans 61 nothing ++ reads 1)
+    (agreeing [])
+
+-- SHIFT and UP are held when the panel is swapped: both come up, UP in its base form, since SHIFT came up before it.
+unfoldable pub shiftedCursor : Story
+shiftedCursor =
+    story (reads 1) (scans 3 (showingToo 8 1 (showing 5 2)) ++ reads 6 ++ Swap plainMap ∷ reads 5) (agreeing [])
+
+-- The same in set 1, chosen before the terminal begins.
+unfoldable pub shiftedCursorInSet1 : Story
+shiftedCursorInSet1 =
+    story (reads 1 ++ host 0xf0 ++ host 1)
+    (scans 3 (showingToo 8 1 (showing 5 2)) ++ reads 5 ++ Swap plainMap ∷ reads 3)
+    (agreeing [])
+
+-- Twelve keys in five columns.
+unfoldable pub twelve : List ℕ
+twelve = showingToo 4 1 (showingToo 3 1 (showingToo 2 1 (showingToo 1 1 (showing 0 0xff))))
+
+-- They are held at a swap: eight releases fill the queue, and the rest follow as it is read. Scans in between are not counted.
+unfoldable pub longHandover : Story
+longHandover =
+    story (reads 1) (scans 3 twelve ++ reads 12 ++ Swap plainMap ∷ scans 3 (showing 0 4) ++ reads 24) (agreeing [])
+
+-- A second swap in the middle of it only replaces the map.
+unfoldable pub secondSwap : Story
+secondSwap =
+    story (reads 1) (scans 3 twelve ++ reads 12 ++ Swap plainMap ∷ reads 3 ++ Swap plainMap ∷ reads 21) (agreeing [])
+
+-- Scans that come while a command waits for its value are not counted. The value turns Num Lock on, so UP has its form.
+unfoldable pub waitingCommand : Story
+waitingCommand =
+    story (reads 1)
+    (host 0xed ++ scans 3 (showing 0 4) ++ host 2 ++ scans 3 (showing 8 1) ++ reads 4)
+    (agreeing (65 ∷ []))
+
+-- Scans counted before the terminal begins count: the third comes after it.
+unfoldable pub thirdScan : Story
+thirdScan = story (reads 1 ++ scans 2 (showing 0 4)) (scans 1 (showing 0 4) ++ reads 1) (agreeing (3 ∷ []))
+
+-- PAUSE is struck, and not down.
+unfoldable pub pauseStruck : Story
+pauseStruck = story (reads 1) (scans 3 (showing 12 0x10) ++ reads 8) pauseApart
+
+-- Refused calls of every kind change nothing.
+unfoldable pub refusals : Story
+refusals =
+    story (reads 1)
+    (Scan [] ∷ Swap [] ∷ Swap (replicate 144 105) ∷ Swap (replicate 144 1) ∷ Frame 2048 ∷ scans 3 (showing 0 4) ++ reads 1)
+    (agreeing (3 ∷ []))
+
+-- All of them.
+unfoldable pub stories : List Story
+stories =
+    limestone ∷ heldOn ∷ repeated ∷ leftAlone ∷ shiftedCursor ∷ shiftedCursorInSet1 ∷ longHandover ∷ secondSwap ∷ waitingCommand
+    ∷ thirdScan ∷ pauseStruck ∷ refusals ∷ []
