@@ -7,7 +7,7 @@ use native.Mathlib.Omega.{arith}
 use lib.ListN.{length, take, replicate, length-append}
 use lib.Seq.{append-snoc, set-append-seam, take-append-seam}
 use Rattle.codes.specs.declared.Sequence.{Sequence}
-use Rattle.codes.specs.Encoder.{holding, adding, over, lying}
+use Rattle.codes.specs.Sequences.{holding, adding}
 
 pub adding-length : (s : Sequence) (l : List ℕ) → adding s l .length ≡ s .length + length l
 unfolding adding
@@ -46,7 +46,7 @@ none-held s e = rw e
 pub room : (s t : Sequence) (l : List ℕ) (n : ℕ) → length l ≤ n → t ≡ adding s l → t .length ≤ s .length + n
 room s t l n h e = rw (e, adding-length s l) (omega arith)
 
--- For those who take a sequence apart: its length, its bytes, and both written over a list.
+-- For those who take a sequence apart: its length and its bytes.
 pub holding-length : (l : List ℕ) → holding l .length ≡ length l
 unfolding holding
 holding-length l = refl
@@ -54,6 +54,3 @@ holding-length l = refl
 pub holding-bytes : (l : List ℕ) → take (holding l .length) (holding l .bytes) ≡ l
 unfolding holding
 holding-bytes l = take-append-seam l (replicate (8 - length l) 0)
-
-pub holding-lies : (l out : List ℕ) → lying (holding l) out ≡ over l out
-holding-lies l out = rw (holding-bytes l, holding-length l)

@@ -3,6 +3,3 @@ pub mod Adding
 pub mod AtOnce
 pub mod Lengths
 pub mod PlainKeys
-pub mod Writing
-pub mod Encoding
-pub mod Once

@@ -1,3 +1,3 @@
 pub mod Modifiers
 pub mod Codes
-pub mod Encoder
+pub mod Sequences

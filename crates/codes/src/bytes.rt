@@ -4,7 +4,7 @@ ghost use mathlib.Core.Path.{_≡_};
 ghost use mathlib.Core.List.{[], _∷_};
 ghost use Prim.Native.Nat.{_<_, _≤_};
 ghost use Rattle.codes.specs.Codes.{prefix, makeOf, breakOf};
-ghost use Rattle.codes.specs.Encoder.{holding, adding};
+ghost use Rattle.codes.specs.Sequences.{holding, adding};
 
 // No bytes yet.
 pub(crate) fn empty() -> Sequence

@@ -1,8 +1,7 @@
-// The encoder (docs/RULES.md, section 3): the bytes that a press, a release or a repeat of a key sends.
+// The codes of keys (docs/RULES.md, section 3): the bytes that a press, a release or a repeat of a key sends.
 pub mod bytes; // bytes.rt: bytes put one after another
 pub mod forms; // forms.rt: which form a key takes
 pub mod strokes; // strokes.rt: the bytes of an action
-pub mod encoder; // encoder.rt: the encoder that is asked with numbers and lent an output
 
 // The keys that do not follow the table alone: the ten cursor keys, and three more.
 pub const FIRST_CURSOR: u8 = 59;
@@ -40,14 +39,4 @@ pub enum Form {
 pub struct Sequence {
     pub bytes: [u8; 8],
     pub length: usize,
-}
-
-// What the encoder answers.
-pub enum Encoded {
-    // So many bytes stand at the front of the lent output.
-    Written(usize),
-    // A set, key, event, type or choice of modifiers out of its range.
-    BadChoice,
-    // A lent output under 8 bytes.
-    ShortOutput,
 }

@@ -14,7 +14,7 @@ ghost use Rattle.basics.specs.Choice.{both};
 ghost use Rattle.codes.specs.Codes.{makeOf, before, after, isPrint, isOther, codeOf, pauseBytes, pausesAtOnce, sendsRelease, mayRepeat, bytesOf, encode};
 ghost use Rattle.keys.specs.Keys.{codeIn, leftWrap, rightWrap};
 ghost use Rattle.codes.specs.declared.Action.the-variants.{Press, Release, Repeat};
-ghost use Rattle.codes.specs.Encoder.{holding, adding};
+ghost use Rattle.codes.specs.Sequences.{holding, adding};
 ghost use Prim.Native.Nat.{ℕ, _≤_};
 
 // The code of SHIFT_L behind E0.

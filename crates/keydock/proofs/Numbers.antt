@@ -12,32 +12,40 @@ use mir.Syntax.{w32}
 use mir.Val.{toZ}
 use mir.ValLaws.{toZ-pos}
 use Rattle.basics.specs.Choice.{pick, both, between}
-use Rattle.codes.specs.declared.Encoded.the-variants.{Written, BadChoice, ShortOutput}
-use Rattle.codes.specs.Encoder.{actionOf, allowed, asked, encodedOf}
+use Rattle.encoder.specs.declared.Encoded.{Encoded}
+use Rattle.encoder.specs.declared.Encoded.the-variants.{Written, BadChoice, ShortOutput}
+use Rattle.encoder.specs.Encoder.{actionOf, allowed, asked, encodedOf}
 use Rattle.codes.proofs.Lengths.{encode-short}
 use Rattle.reader.specs.declared.Event.{Event}
 use Rattle.reader.specs.declared.Event.the-variants.{More, Pressed, Released, PauseStruck, Wrapping, Overrun, Unknown, BadState, BadSet}
 use Rattle.reader.specs.declared.Answer.{Answer}
 use Rattle.reader.specs.Reader.{readByte, answerOf, numberOf}
 use Rattle.roundtrip.proofs.OnlyItsOwn.{next-is-a-state}
-use Rattle.keydock.specs.Numbers.{minus, eventNumber, keyOf, answerNumber}
+use Rattle.keydock.specs.Numbers.{minus, encodedNumber, eventNumber, keyOf, answerNumber}
 
 -- A number below half the range of an i32 reads as itself.
 pub as-it-is : (n : ℕ) → n < 2 ^ 31 → toZ w32 n ≡ pos n
 as-it-is n h = toZ-pos w32 n h
 
 -- So does a number of bytes that were written: there are at most eight.
-module _ (set key event type mods lock : ℕ) (out : List ℕ) where
-  pub count-small : (count : ℕ) → encodedOf set key event type mods lock out ≡ Written count → count ≤ 8
+module _ (set key event type mods lock : ℕ) (out : List ℕ) (r : Encoded) (e : r ≡ encodedOf set key event type mods lock out) where
+  pub count-small : (count : ℕ) → r ≡ Written count → count ≤ 8
   unfolding encodedOf asked
-  count-small count e = go (allowed set key event type mods lock) (ltb (length out) 8) e
+  count-small count w = go (allowed set key event type mods lock) (ltb (length out) 8) (sym e ∙ w)
     where
       go : (a b : Bool) → pick a (pick b ShortOutput (Written (length (asked set key event type mods lock)))) BadChoice ≡ Written count → count ≤ 8
-      go true true e = let z : _≡_ {A = ℕ} 0 1 = cc in omega arith
-      go true false e =
+      go true true w = let z : _≡_ {A = ℕ} 0 1 = cc in omega arith
+      go true false w =
           let same : length (asked set key event type mods lock) ≡ count = cc in
           omega (arith, encode-short set key (actionOf event) type mods (eqb lock 1))
-      go false b e = let z : _≡_ {A = ℕ} 0 1 = cc in omega arith
+      go false b w = let z : _≡_ {A = ℕ} 0 1 = cc in omega arith
+
+  -- The number of whatever the encoder answered.
+  pub encoded : (answer : Encoded) → r ≡ answer → encodedNumber answer ≡ encodedNumber (encodedOf set key event type mods lock out)
+  encoded answer a = ap encodedNumber (sym a ∙ e)
+
+  pub counted : (count : ℕ) → r ≡ Written count → toZ w32 count ≡ encodedNumber (encodedOf set key event type mods lock out)
+  counted count w = as-it-is count (omega (arith, count-small count w)) ∙ encoded (Written count) w
 
 -- There are seven events, numbered from 0.
 pub event-small : (e : Event) → eventNumber e ≤ 6

@@ -6,13 +6,13 @@ use lib.IntN.{ℤ, pos, negsuc}
 use Rattle.basics.specs.Choice.{pick}
 use Rattle.frames.specs.declared.Unpacked.{Unpacked}
 use Rattle.frames.specs.declared.Unpacked.the-variants.{Byte, Broken, TooLarge}
-use Rattle.codes.specs.declared.Encoded.{Encoded}
-use Rattle.codes.specs.declared.Encoded.the-variants.{Written, BadChoice, ShortOutput}
+use Rattle.encoder.specs.declared.Encoded.{Encoded}
+use Rattle.encoder.specs.declared.Encoded.the-variants.{Written, BadChoice, ShortOutput}
 use Rattle.reader.specs.declared.Event.{Event}
 use Rattle.reader.specs.declared.Event.the-variants.{More, Pressed, Released, PauseStruck, Wrapping, Overrun, Unknown, BadState, BadSet}
 use Rattle.reader.specs.declared.Answer.{Answer}
 use Rattle.frames.specs.Frames as frames
-use Rattle.codes.specs.Encoder as codes
+use Rattle.encoder.specs.Encoder as encoder
 use Rattle.reader.specs.Reader as reader
 
 -- Minus a number.
@@ -29,8 +29,8 @@ unpackedNumber TooLarge = minus (frames.numberOf TooLarge)
 -- A key encoded: how many bytes were written.
 abbrev pub encodedNumber : Encoded → ℤ
 encodedNumber (Written count) = pos count
-encodedNumber BadChoice = minus (codes.numberOf BadChoice)
-encodedNumber ShortOutput = minus (codes.numberOf ShortOutput)
+encodedNumber BadChoice = minus (encoder.numberOf BadChoice)
+encodedNumber ShortOutput = minus (encoder.numberOf ShortOutput)
 
 -- The number of an event; a refusal is none.
 abbrev pub eventNumber : Event → ℕ

@@ -1,11 +1,11 @@
 // The C interface (include/keydock.h): frames, a key's codes and the reader on numbers and bytes alone.
 // Nothing is decided here. Each function asks the part that knows and turns its answer into one number.
-use codes::Encoded;
+use encoder::Encoded;
 use frames::Unpacked;
 use reader::Event;
 ghost use mathlib.Core.Path.{_≡_};
 ghost use Rattle.frames.specs.Frames.{frameOf, unpackedOf};
-ghost use Rattle.codes.specs.Encoder.{encodedOf, outputOf};
+ghost use Rattle.encoder.specs.Encoder.{encodedOf, outputOf};
 ghost use Rattle.reader.specs.Reader.{answerOf, numberOf};
 ghost use Rattle.keydock.specs.Numbers.{unpackedNumber, encodedNumber, eventNumber, keyOf, answerNumber};
 
@@ -44,7 +44,7 @@ pub extern "C" fn keydock_key_codes(
     ensures answer { λ r. ⌜ r ≡ encodedNumber (encodedOf set key event kind modifiers lock (now (out .entry))) ⌝ }
     ensures output { λ _. ⌜ now (out .exit) ≡ outputOf set key event kind modifiers lock (now (out .entry)) ⌝ }
 {
-    let answer = codes::encoder::encode(set, key, event, kind, modifiers, lock, out);
+    let answer = encoder::encode(set, key, event, kind, modifiers, lock, out);
     match answer {
         Encoded::Written(count) => count as i32,
         Encoded::BadChoice => -7,

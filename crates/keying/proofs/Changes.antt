@@ -7,7 +7,7 @@ use lib.ListN.{set}
 use Rattle.codes.specs.declared.Action.the-variants.{Press, Release}
 use Rattle.codes.specs.declared.Sequence.{Sequence}
 use Rattle.codes.specs.Codes.{mayRepeat}
-use Rattle.codes.specs.Encoder.{holding}
+use Rattle.codes.specs.Sequences.{holding}
 use Rattle.queue.specs.declared.Queue.{Queue}
 use Rattle.queue.specs.Queues.{contents}
 use Rattle.record.specs.declared.Mode.{Mode}

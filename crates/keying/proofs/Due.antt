@@ -9,7 +9,7 @@ use lib.ListN.{getD}
 use Rattle.codes.specs.declared.Action.the-variants.{Repeat}
 use Rattle.codes.specs.declared.Sequence.{Sequence}
 use Rattle.codes.specs.Codes.{mayRepeat}
-use Rattle.codes.specs.Encoder.{holding}
+use Rattle.codes.specs.Sequences.{holding}
 use Rattle.queue.specs.declared.Queue.{Queue}
 use Rattle.queue.specs.Queues.{queueOf, contents}
 use Rattle.record.specs.declared.Mode.{Mode}

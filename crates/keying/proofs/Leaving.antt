@@ -9,7 +9,7 @@ use borrow.Author.Tests.{eq-eqb, ne-eqb}
 use lib.ListN.{getD, length}
 use Rattle.codes.specs.declared.Action.the-variants.{Release}
 use Rattle.codes.specs.declared.Sequence.{Sequence}
-use Rattle.codes.specs.Encoder.{holding}
+use Rattle.codes.specs.Sequences.{holding}
 use Rattle.queue.specs.Queues.{waiting, contents, hasRoom}
 use Rattle.record.specs.declared.Mode.{Mode}
 use Rattle.record.specs.declared.Keys.{Keys}

@@ -9,7 +9,7 @@ use Rattle.basics.specs.Lists.{allUpTo}
 use Rattle.basics.proofs.Limits.{up-to-at}
 use Rattle.codes.specs.declared.Action.{Action}
 use Rattle.codes.specs.declared.Sequence.{Sequence}
-use Rattle.codes.specs.Encoder.{holding}
+use Rattle.codes.specs.Sequences.{holding}
 use Rattle.codes.proofs.Adding.{holding-length}
 use Rattle.codes.proofs.Lengths.{encode-short}
 use Rattle.queue.specs.Queues.{contents}

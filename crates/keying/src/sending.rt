@@ -8,7 +8,7 @@ ghost use mathlib.Core.Path.{_≡_};
 ghost use mathlib.Core.Bool.{true};
 ghost use Prim.Native.Nat.{_≤_};
 ghost use Rattle.basics.specs.Lists.{allUpTo};
-ghost use Rattle.codes.specs.Encoder.{holding};
+ghost use Rattle.codes.specs.Sequences.{holding};
 ghost use Rattle.keys.specs.Keys.{markOf};
 ghost use Rattle.queue.specs.Queues.{tidy, contents};
 ghost use Rattle.keying.specs.Sending.{modifiersOf, sends, queuedOf};

@@ -11,7 +11,7 @@ use lib.Seq.{length-take-le, take-append-seam, drop-append-seam}
 use Rattle.basics.specs.Lists.{allUpTo}
 use Rattle.basics.proofs.Tables.{both-left, both-right}
 use Rattle.codes.specs.declared.Sequence.{Sequence}
-use Rattle.codes.specs.Encoder.{holding}
+use Rattle.codes.specs.Sequences.{holding}
 use Rattle.queue.specs.declared.Queue.{Queue}
 use Rattle.queue.specs.Queues.{waiting, queueOf, tidy, contents}
 

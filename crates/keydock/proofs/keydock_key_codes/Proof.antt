@@ -1,9 +1,7 @@
 -- `keydock_key_codes` meets its contract: the count is at most 8 and so reads as itself, and the output is the encoder's. Assumes nothing.
-use mathlib.Core.Path.{sym, ap, _∙_}
 use native.Mathlib.Omega.{arith}
 use borrow.Author.Needs.{needs}
-use Rattle.keydock.specs.Numbers.{encodedNumber}
-use Rattle.keydock.proofs.Numbers.{as-it-is, count-small}
+use Rattle.keydock.proofs.Numbers.{count-small, encoded, counted}
 use Rattle.keydock.proofs.keydock_key_codes.Statement.{statement}
 use Rattle.keydock.proofs.keydock_key_codes.Tie as tie
 
@@ -14,7 +12,9 @@ enum-known-answer : tie.Need-enum-known-answer
 enum-known-answer c = search needs
 
 cast-result : tie.Need-cast-result
-cast-result c = record { sfits = omega (arith, count-small _ _ _ _ _ _ _ (c .before .answer .given .0 .0) (sym (c .before .before .before .before .before .encode .ensures .answer) ∙ c .before .answer .given .1)) }
+cast-result c =
+    let e = c .before .before .before .before .before .encode .ensures .answer in
+    record { sfits = omega (arith, count-small _ _ _ _ _ _ _ _ e _ (c .before .answer .given .1)) }
 
 enum-told : tie.Need-enum-told
 enum-told c = search needs
@@ -26,23 +26,25 @@ same-length : tie.Need-same-length
 same-length c = search needs
 
 returns : tie.Need-returns
-returns c = (
-  as-it-is (c .before .answer .given .0 .0) (omega (arith, count-small _ _ _ _ _ _ _ (c .before .answer .given .0 .0) (sym (c .before .before .before .before .before .encode .ensures .answer) ∙ c .before .answer .given .1)))
-      ∙ ap encodedNumber (sym (c .before .answer .given .1) ∙ c .before .before .before .before .before .encode .ensures .answer),
-  c .before .before .before .before .before .encode .ensures .output,
-)
+returns c =
+    let e = c .before .before .before .before .before .encode .ensures in
+    (counted _ _ _ _ _ _ _ _ (e .answer) _ (c .before .answer .given .1), e .output)
 
 same-length-2 : tie.Need-same-length-2
 same-length-2 c = search needs
 
 returns-2 : tie.Need-returns-2
-returns-2 c = (ap encodedNumber (sym (c .enum-told .given .1) ∙ c .before .before .before .before .encode .ensures .answer), c .before .before .before .before .encode .ensures .output)
+returns-2 c =
+    let e = c .before .before .before .before .encode .ensures in
+    (encoded _ _ _ _ _ _ _ _ (e .answer) _ (c .enum-told .given .1), e .output)
 
 same-length-3 : tie.Need-same-length-3
 same-length-3 c = search needs
 
 returns-3 : tie.Need-returns-3
-returns-3 c = (ap encodedNumber (sym (c .enum-told2 .given .1) ∙ c .before .before .before .before .encode .ensures .answer), c .before .before .before .before .encode .ensures .output)
+returns-3 c =
+    let e = c .before .before .before .before .encode .ensures in
+    (encoded _ _ _ _ _ _ _ _ (e .answer) _ (c .enum-told2 .given .1), e .output)
 
 pub keydock-key-codes-spec : {M : Type 1} → statement M
 keydock-key-codes-spec =

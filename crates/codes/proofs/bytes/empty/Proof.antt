@@ -1,6 +1,6 @@
 -- `codes::bytes::empty` meets its contract: both are eight zeros and the length 0. Assumes nothing.
 use mathlib.Core.Path.{refl}
-use Rattle.codes.specs.Encoder.{holding}
+use Rattle.codes.specs.Sequences.{holding}
 use Rattle.codes.proofs.bytes.empty.Statement.{statement}
 use Rattle.codes.proofs.bytes.empty.Tie as tie
 

@@ -1,6 +1,6 @@
 -- `codes::bytes::with_byte` meets its contract: one byte more is what `adding` does once. Assumes nothing.
 use mathlib.Core.Path.{refl}
-use Rattle.codes.specs.Encoder.{adding}
+use Rattle.codes.specs.Sequences.{adding}
 use borrow.Author.Needs.{needs}
 use Rattle.codes.proofs.bytes.with_byte.Statement.{statement}
 use Rattle.codes.proofs.bytes.with_byte.Tie as tie

@@ -1,7 +1,7 @@
 -- `codes::bytes::with_prefix` meets its contract: a code without E0 adds nothing, any other adds its upper byte. Assumes nothing.
 use borrow.Author.Tests.{ne-eqb}
 use Rattle.codes.specs.Codes.{prefix}
-use Rattle.codes.specs.Encoder.{adding}
+use Rattle.codes.specs.Sequences.{adding}
 use borrow.Author.Needs.{needs}
 use Rattle.codes.proofs.bytes.with_prefix.Statement.{statement}
 use Rattle.codes.proofs.bytes.with_prefix.Tie as tie

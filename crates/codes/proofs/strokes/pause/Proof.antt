@@ -3,7 +3,7 @@ use native.Mathlib.Omega.{arith}
 use mathlib.Core.Path.{_≡_}
 use Rattle.keys.specs.Keys.{codeIn, rowOf, rows}
 use Rattle.codes.specs.Codes.{pauseBytes, makeOf, breakOf, prefix}
-use Rattle.codes.specs.Encoder.{holding}
+use Rattle.codes.specs.Sequences.{holding}
 use borrow.Author.Needs.{needs}
 use Rattle.codes.proofs.strokes.pause.Statement.{statement}
 use Rattle.codes.proofs.strokes.pause.Tie as tie

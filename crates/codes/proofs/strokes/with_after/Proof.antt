@@ -1,7 +1,7 @@
 -- `codes::strokes::with_after` meets its contract: in each form the wraps are those of the definition, in its order. Assumes nothing.
 use native.Mathlib.Omega.{arith}
 use Rattle.codes.specs.Codes.{after}
-use Rattle.codes.specs.Encoder.{adding}
+use Rattle.codes.specs.Sequences.{adding}
 use Rattle.codes.proofs.Adding.{joined, room}
 use Rattle.codes.proofs.Lengths.{make-short}
 use borrow.Author.Needs.{needs}

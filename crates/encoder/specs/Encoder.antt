@@ -1,26 +1,17 @@
 -- The encoder that is asked with numbers and lent an output (docs/RULES.md, sections 3 and 9). Assumes nothing.
-use Prim.Native.Nat.{ℕ, _-_, _+_}
+use Prim.Native.Nat.{ℕ}
 use mathlib.Core.Path.{_≡_}
 use mathlib.Core.Bool.{Bool}
-use mathlib.Core.List.{List, [], _∷_, _++_}
+use mathlib.Core.List.{List, _++_}
 use lib.Dec.{eqb, ltb, leb}
-use lib.ListN.{length, take, drop, replicate, set}
-use Rattle.codes.specs.declared.Action.{Action}
-use Rattle.codes.specs.declared.Action.the-variants.{Press, Release, Repeat}
-use Rattle.codes.specs.declared.Encoded.{Encoded}
-use Rattle.codes.specs.declared.Encoded.the-variants.{Written, BadChoice, ShortOutput}
-use Rattle.codes.specs.declared.Sequence.{Sequence}
+use lib.ListN.{length, take, drop}
 use Rattle.basics.specs.Choice.{pick, both, between}
+use Rattle.codes.specs.declared.Action.{Action}
+use Rattle.codes.specs.declared.Action.the-variants.{Press, Release, Repeat}
+use Rattle.codes.specs.declared.Sequence.{Sequence}
 use Rattle.codes.specs.Codes.{encode}
-
--- A sequence that holds these bytes, zeros behind them.
-unfoldable pub holding : List ℕ → Sequence
-holding bytes = record { bytes = bytes ++ replicate (8 - length bytes) 0; length = length bytes }
-
--- A sequence with further bytes put behind its own.
-unfoldable pub adding : Sequence → List ℕ → Sequence
-adding s [] = s
-adding s (byte ∷ rest) = adding (record { bytes = set (s .bytes) (s .length) byte; length = s .length + 1 }) rest
+use Rattle.encoder.specs.declared.Encoded.{Encoded}
+use Rattle.encoder.specs.declared.Encoded.the-variants.{Written, BadChoice, ShortOutput}
 
 -- The action that an event's number asks for: 0 a press, 1 a release, 2 a repeat.
 abbrev pub actionOf : ℕ → Action

@@ -3,8 +3,8 @@ use mathlib.Core.Path.{_≡_}
 use mathlib.Core.List.{List}
 use Prim.Native.Nat.{ℕ}
 use Rattle.basics.proofs.Once.{one-answer}
-use Rattle.codes.specs.declared.Encoded.{Encoded}
-use Rattle.codes.specs.Encoder.{Encodes}
+use Rattle.encoder.specs.declared.Encoded.{Encoded}
+use Rattle.encoder.specs.Encoder.{Encodes}
 
 pub encodes-once : (set key event type mods lock : ℕ) (out : List ℕ) (r s : Encoded) (after after′ : List ℕ)
     → Encodes set key event type mods lock out r after → Encodes set key event type mods lock out s after′ → (r ≡ s) × (after ≡ after′)

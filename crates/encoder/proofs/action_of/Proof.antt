@@ -1,7 +1,7 @@
--- `codes::encoder::action_of` meets its contract: each number is that of one action. Assumes nothing.
+-- `encoder::action_of` meets its contract: each number is that of one action. Assumes nothing.
 use borrow.Author.Tests.{ne-eqb}
-use Rattle.codes.proofs.encoder.action_of.Statement.{statement}
-use Rattle.codes.proofs.encoder.action_of.Tie as tie
+use Rattle.encoder.proofs.action_of.Statement.{statement}
+use Rattle.encoder.proofs.action_of.Tie as tie
 
 returns : tie.Need-returns
 returns c = rw (c .if1 .taken)

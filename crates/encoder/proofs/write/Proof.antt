@@ -1,4 +1,4 @@
--- `codes::encoder::write` meets its contract. The loop's invariant: the first `i` bytes stand at the front of the output, and all
+-- `encoder::write` meets its contract. The loop's invariant: the first `i` bytes stand at the front of the output, and all
 -- behind them is as it was. The measure is the number of bytes that are left. Assumes nothing.
 use native.Mathlib.Omega.{arith}
 use mathlib.Core.Path.{_≡_, refl, ap, _∙_}
@@ -6,10 +6,10 @@ use mathlib.Core.List.{_++_}
 use Prim.Native.Nat.{ℕ, _≤_, _-_}
 use native.Mathlib.Nat.{le-antisymm}
 use lib.ListN.{length, take, drop}
-use Rattle.codes.proofs.Writing.{written-length, written-more}
+use Rattle.encoder.proofs.Writing.{written-length, written-more}
 use borrow.Author.Needs.{needs}
-use Rattle.codes.proofs.encoder.write.Statement.{statement}
-use Rattle.codes.proofs.encoder.write.Tie as tie
+use Rattle.encoder.proofs.write.Statement.{statement}
+use Rattle.encoder.proofs.write.Tie as tie
 
 abbrev Inv-loop : tie.InvT-loop
 Inv-loop out₀ n bytes i₀ out i = (i ≤ n) × (out ≡ take i bytes ++ drop i out₀)

@@ -1,41 +1,36 @@
-// The encoder as the outside asks it: with numbers, and with an output that is lent.
-use crate::Action;
-use crate::Encoded;
-use crate::Sequence;
-use crate::strokes::sequence_of;
+// The encoder as the outside asks it (docs/RULES.md, sections 3 and 9): with numbers, and with an output that is lent.
+use codes::Action;
+use codes::Sequence;
+use codes::strokes::sequence_of;
 ghost use mathlib.Core.Path.{_≡_};
 ghost use Prim.Native.Nat.{_≤_};
 ghost use lib.ListN.{length};
 ghost use Rattle.basics.specs.Choice.{between};
-ghost use Rattle.codes.specs.Encoder.{actionOf, allowed, Encodes, lying};
+ghost use Rattle.encoder.specs.Encoder.{actionOf, allowed, Encodes, lying};
+
+// What the encoder answers.
+pub enum Encoded {
+    // So many bytes stand at the front of the lent output.
+    Written(usize),
+    // A set, key, event, type or choice of modifiers out of its range.
+    BadChoice,
+    // A lent output under 8 bytes.
+    ShortOutput,
+}
 
 // A number from low to high, both included.
 fn is_between(low: u32, high: u32, n: u32) -> bool
     ensures { λ r. ⌜ r ≡ between low high n ⌝ }
 {
-    low <= n && n <= high
+    (low <= n) & (n <= high)
 }
 
 // What the encoder may be asked for.
 fn is_allowed(set: u32, key: u32, event: u32, kind: u32, modifiers: u32, lock: u32) -> bool
     ensures { λ r. ⌜ r ≡ allowed set key event kind modifiers lock ⌝ }
 {
-    if !is_between(1, 3, set) {
-        return false;
-    }
-    if !is_between(1, 104, key) {
-        return false;
-    }
-    if 2 < event {
-        return false;
-    }
-    if 3 < kind {
-        return false;
-    }
-    if 63 < modifiers {
-        return false;
-    }
-    lock <= 1
+    let known = is_between(1, 3, set) & is_between(1, 104, key);
+    known & (event <= 2) & (kind <= 3) & (modifiers <= 63) & (lock <= 1)
 }
 
 // The action that an event's number asks for.

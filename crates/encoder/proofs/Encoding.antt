@@ -8,21 +8,27 @@ use lib.ListN.{length}
 use borrow.Author.Tests.{lt-ltb, le-ltb}
 use Rattle.basics.specs.Choice.{both, between}
 use Rattle.basics.proofs.Tables.{both-left, both-right}
-use Rattle.codes.specs.declared.Encoded.the-variants.{Written, BadChoice, ShortOutput}
+use Rattle.encoder.specs.declared.Encoded.the-variants.{Written, BadChoice, ShortOutput}
 use Rattle.codes.specs.declared.Sequence.{Sequence}
-use Rattle.codes.specs.Encoder.{holding, allowed, asked, lying, encodedOf, outputOf, Encodes}
-use Rattle.codes.proofs.Adding.{holding-length, holding-lies}
+use Rattle.codes.specs.Sequences.{holding}
+use Rattle.encoder.specs.Encoder.{allowed, asked, over, lying, encodedOf, outputOf, Encodes}
+use Rattle.codes.proofs.Adding.{holding-length, holding-bytes}
 use Rattle.codes.proofs.Answers.{passed, refused}
 
-module _ (set key event type mods lock : ℕ) where
-  pub allowed-range : allowed set key event type mods lock ≡ true → (set ≤ 3) × (key ≤ 104) × (type ≤ 3) × (mods ≤ 63)
+-- A sequence written to the front of a list is its bytes laid over the list.
+holding-lies : (l out : List ℕ) → lying (holding l) out ≡ over l out
+holding-lies l out = rw (holding-bytes l, holding-length l)
+
+module _ (set key event type mods lock : ℕ) (a : Bool) (e : a ≡ allowed set key event type mods lock) where
+  -- What is allowed fits a byte.
+  pub allowed-range : not a ≡ false → (set ≤ 3) × (key ≤ 104) × (type ≤ 3) × (mods ≤ 63)
   unfolding allowed
-  allowed-range e =
+  allowed-range p =
       let of-mods = both (leb mods 63) (leb lock 1) in
       let of-type = both (leb type 3) of-mods in
       let of-event = both (leb event 2) of-type in
       let of-key = both (between 1 104 key) of-event in
-      let s : T (both (between 1 3 set) of-key) = rw e tt in
+      let s : T (both (between 1 3 set) of-key) = rw (passed e p) tt in
       let k = both-right (between 1 3 set) of-key s in
       let t = both-right (leb event 2) of-type (both-right (between 1 104 key) of-event k) in
       let m = both-right (leb type 3) of-mods t in (
@@ -32,7 +38,7 @@ module _ (set key event type mods lock : ℕ) where
         leb→le mods 63 (both-left (leb mods 63) (leb lock 1) m),
       )
 
-  module _ (out : List ℕ) (a : Bool) (e : a ≡ allowed set key event type mods lock) where
+  module _ (out : List ℕ) where
     pub bad-choice : not a ≡ true → Encodes set key event type mods lock out BadChoice out
     unfolding encodedOf outputOf
     bad-choice n = record { answer = rw (refused e n); output = rw (refused e n) }

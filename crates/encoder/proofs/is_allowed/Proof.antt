@@ -1,0 +1,19 @@
+-- `encoder::is_allowed` meets its contract: its tests are those of the definition, in its order. Assumes nothing.
+use Rattle.encoder.specs.Encoder.{allowed}
+use Rattle.encoder.proofs.Tests.{one-more-test}
+use borrow.Author.Needs.{needs}
+use Rattle.encoder.proofs.is_allowed.Statement.{statement}
+use Rattle.encoder.proofs.is_allowed.Tie as tie
+
+is-between-requires : tie.Need-is-between-requires
+is-between-requires c κs = search needs
+
+is-between-requires-2 : tie.Need-is-between-requires-2
+is-between-requires-2 c κs = search needs
+
+returns : tie.Need-returns
+unfolding allowed
+returns c = simp (one-more-test, c .before .is-between .ensures, c .is-between2 .ensures)
+
+pub is-allowed-spec : {M : Type 1} → statement M
+is-allowed-spec = tie.close (tie.spec is-between-requires is-between-requires-2 returns)
