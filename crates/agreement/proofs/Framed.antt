@@ -107,12 +107,12 @@ frame-settled d scans number range s = rw range (go (unpackedOf number))
     go TooLarge = s
 
 -- A byte that does not clear the queue, in numbers.
-record Mild (byte : ℕ) : Type 0 where
-  not-f0 : byte ≡ 0xf0 → ⊥
-  apart : (byte < 0xf4) ⊎ (0xfd < byte)
-  not-ff : byte ≡ 0xff → ⊥
+pub record Mild (byte : ℕ) : Type 0 where
+  pub not-f0 : byte ≡ 0xf0 → ⊥
+  pub apart : (byte < 0xf4) ⊎ (0xfd < byte)
+  pub not-ff : byte ≡ 0xff → ⊥
 
-mild : (byte : ℕ) → clears byte ≡ false → Mild byte
+pub mild : (byte : ℕ) → clears byte ≡ false → Mild byte
 unfolding clears
 mild byte c =
     let inside = between 0xf4 0xfd byte in
@@ -128,7 +128,7 @@ mild byte c =
     go true false l h none = inr (leb-false byte 0xfd h)
     go true true l h none = never true refl none
 
-module _ (d : Dock) (t : Terminal) (f : Follows d t) (byte : ℕ) where
+module _ (byte : ℕ) where
   -- A number between two of those that clear is not mild.
   inside : Mild byte → (low high : ℕ) → 0xf4 ≤ low → high ≤ 0xfd → between low high byte ≡ true → ⊥
   inside m low high a b h =
@@ -140,9 +140,9 @@ module _ (d : Dock) (t : Terminal) (f : Follows d t) (byte : ℕ) where
   equal m n a b h = let is = eqb-true byte n h in ⊎-elim (λ l. omega arith) (λ l. omega arith) (m .apart)
 
   -- A mild command changes no part that matters.
-  obeyed-mild : Mild byte → obeyed byte d ≡ d
+  pub obeyed-mild : (d : Dock) → Mild byte → obeyed byte d ≡ d
   unfolding obeyed
-  obeyed-mild m =
+  obeyed-mild d m =
       let Same : Dock → Type 0 = λ (e : Dock). e ≡ d in
       by-cases Same (eqb byte 0xf0) _ _ (λ h. absurd (m .not-f0 (eqb-true byte 0xf0 h)))
       (λ h. by-cases Same (eqb byte 0xf4) _ _ (λ h. absurd (equal m 0xf4 (omega arith) (omega arith) h))
@@ -152,10 +152,11 @@ module _ (d : Dock) (t : Terminal) (f : Follows d t) (byte : ℕ) where
       (λ h. by-cases Same (between 0xfb 0xfd byte) _ _ (λ h. absurd (inside m 0xfb 0xfd (omega arith) (omega arith) h))
       (λ h. by-cases Same (eqb byte 0xff) _ _ (λ h. absurd (m .not-ff (eqb-true byte 0xff h))) (λ h. refl)))))))
 
+module _ (d : Dock) (t : Terminal) (f : Follows d t) (byte : ℕ) where
   commanded-follows : Mild byte → Follows (commanded byte d) t
   unfolding commanded
   commanded-follows m =
-      rw (obeyed-mild m)
+      rw (obeyed-mild byte d m)
       (record {
         chosen = f .chosen;
         firm = picked (λ (n : ℕ). n ≡ 0xf0 → ⊥) (takesValue byte) byte 0 (m .not-f0) (λ e. omega arith);

@@ -6,3 +6,8 @@ pub mod Framed
 pub mod Taken
 pub mod AnyCalls
 pub mod ThirdDemand
+pub mod Bounds
+pub mod Giving
+pub mod Ending
+pub mod Queuing
+pub mod Queue

@@ -27,7 +27,7 @@ use Rattle.agreement.proofs.Following.{Follows, closing-follows}
 use Rattle.agreement.proofs.Ready.{IsReady, Settled, same-flags, closing-settled}
 
 -- The queue without its oldest byte has its 16 places.
-behind-places : (q : Queue) → length (q .bytes) ≡ 16 → length (behindIt q .bytes) ≡ 16
+pub behind-places : (q : Queue) → length (q .bytes) ≡ 16 → length (behindIt q .bytes) ≡ 16
 unfolding waiting
 behind-places q e =
     let bytes = take (q .length) (q .bytes) in
@@ -53,7 +53,7 @@ read-settled d scans range s =
     (closing-settled (remembering (withReplies d (behindIt (d .replies))) (oldest (d .replies))) scans (s .ready)))
 
 -- A queue of some length holds some bytes.
-some-wait : (q : Queue) → length (q .bytes) ≡ 16 → (q .length ≡ 0 → ⊥) → 1 ≤ length (waiting q)
+pub some-wait : (q : Queue) → length (q .bytes) ≡ 16 → (q .length ≡ 0 → ⊥) → 1 ≤ length (waiting q)
 unfolding waiting
 some-wait q places some = omega (arith, length-take (q .length) (q .bytes))
 

@@ -1,5 +1,6 @@
 pub mod Calls
 pub mod Worlds
 pub mod Runs
+pub mod Bytes
 pub mod Stories
 pub mod Told

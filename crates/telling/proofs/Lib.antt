@@ -5,3 +5,5 @@ pub mod Told
 pub mod Held
 pub mod Handing
 pub mod Repeating
+pub mod Lessening
+pub mod Overrunning

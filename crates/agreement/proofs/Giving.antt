@@ -1,0 +1,72 @@
+-- A read gives the oldest reply that waits, else the oldest key byte, and nothing only where neither waits. Assumes nothing.
+use mathlib.Core.Path.{_≡_, refl, sym, ap, _∙_}
+use mathlib.Core.List.{List, [], _∷_}
+use Prim.Native.Nat.{ℕ, suc}
+use native.Mathlib.Omega.{arith}
+use borrow.Author.Tests.{eq-eqb, ne-eqb, eqb-true}
+use lib.Dec.{eqb}
+use lib.ListN.{length, getD, drop}
+use Rattle.dock.specs.declared.Given.the-variants.{Nothing, Reply, KeyByte}
+use Rattle.dock.specs.declared.Taken.{Taken}
+use Rattle.dock.specs.Answers.{taken}
+use Rattle.dock.specs.Closing.{closing}
+use Rattle.dock.specs.Read.{oldest, behindIt, remembering, replyTaken, keyByteTaken, read, readOf}
+use Rattle.keying.proofs.Kept.{picked}
+use Rattle.queue.specs.Queues.{waiting}
+use Rattle.queue.proofs.Meaning.{waiting-queueOf}
+use Rattle.record.specs.declared.Dock.{Dock}
+use Rattle.record.specs.Parts.{withKeys, withReplies, withQueue}
+use Rattle.runs.specs.Calls.{Call, Read}
+use Rattle.runs.specs.Worlds.{World, woken, next, afterCalls}
+use Rattle.runs.specs.Bytes.{foremost}
+use Rattle.telling.proofs.Cases.{by-cases}
+use Rattle.agreement.proofs.Following.{none-wait}
+use Rattle.agreement.proofs.Bounds.{Steady, closing-replies, keys-counted, replies-counted, reached-steady}
+
+pub read-gives : (w : World) → Steady w
+    → readOf (w .dock) .given ≡ foremost (waiting (w .dock .replies)) (waiting (w .dock .keys .queue))
+unfolding readOf read replyTaken keyByteTaken
+read-gives w s = rw (s .sound .range) (go (waiting (d .replies)) (waiting (d .keys .queue)) refl refl)
+  where
+    d : Dock
+    d = w .dock
+
+    go : (replies bytes : List ℕ) → waiting (d .replies) ≡ replies → waiting (d .keys .queue) ≡ bytes
+        → read d .given ≡ foremost replies bytes
+    go (reply ∷ replies) bytes e f =
+        let some : d .replies .length ≡ suc (length replies) = sym (replies-counted w s) ∙ ap length e in
+        rw (ne-eqb (d .replies .length) 0 (λ none. omega arith)) (ap (λ (l : List ℕ). Reply (getD l 0 0)) e)
+    go [] (byte ∷ bytes) e f =
+        let none : d .replies .length ≡ 0 = sym (replies-counted w s) ∙ ap length e in
+        let some : d .keys .queue .length ≡ suc (length bytes) = sym (keys-counted w (s .sound)) ∙ ap length f in
+        rw (eq-eqb (d .replies .length) 0 none, ne-eqb (d .keys .queue .length) 0 (λ none. omega arith))
+        (ap (λ (l : List ℕ). KeyByte (getD l 0 0)) f)
+    go [] [] e f =
+        let none : d .replies .length ≡ 0 = sym (replies-counted w s) ∙ ap length e in
+        let neither : d .keys .queue .length ≡ 0 = sym (keys-counted w (s .sound)) ∙ ap length f in
+        rw (eq-eqb (d .replies .length) 0 none, eq-eqb (d .keys .queue .length) 0 neither)
+
+-- So it is after any calls.
+pub any-read-gives : (calls : List Call)
+    → readOf (afterCalls woken calls .dock) .given
+    ≡ foremost (waiting (afterCalls woken calls .dock .replies)) (waiting (afterCalls woken calls .dock .keys .queue))
+any-read-gives calls = read-gives (afterCalls woken calls) (reached-steady calls)
+
+-- It leaves the replies behind the oldest, in order; of the key bytes see Queue.
+pub read-leaves : (w : World) → Steady w → waiting (next w Read .dock .replies) ≡ drop 1 (waiting (w .dock .replies))
+unfolding next readOf read replyTaken keyByteTaken remembering
+read-leaves w s =
+    let d = w .dock in
+    let q = d .keys .queue in
+    let Left : Taken → Type 0 = λ (t : Taken). waiting (t .dock .replies) ≡ drop 1 (waiting (w .dock .replies)) in
+    rw (s .sound .range)
+    (by-cases Left (eqb (d .replies .length) 0) _ (replyTaken d)
+    (λ none.
+    let empty = none-wait (d .replies) (eqb-true (d .replies .length) 0 none) in
+    let same : waiting (d .replies) ≡ drop 1 (waiting (d .replies)) = empty ∙ sym (ap (λ (l : List ℕ). drop 1 l) empty) in
+    picked Left (eqb (q .length) 0) (taken Nothing (closing d)) (keyByteTaken d)
+    (rw (closing-replies d) same)
+    (rw (closing-replies (remembering (withKeys d (withQueue (d .keys) (behindIt q))) (oldest q))) same))
+    (λ some.
+    rw (closing-replies (remembering (withReplies d (behindIt (d .replies))) (oldest (d .replies))))
+    (waiting-queueOf (drop 1 (waiting (d .replies))))))

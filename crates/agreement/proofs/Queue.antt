@@ -1,0 +1,153 @@
+-- No key byte is lost, given twice or made up: while no frame's byte clears the queue and the queue does not overrun, the key bytes that
+-- reads give and those that still wait are, in order, those that waited and those that calls put into the queue, whole sequences all of
+-- them. Assumes nothing.
+use mathlib.Core.Path.{_≡_, refl, sym, ap, _∙_}
+use mathlib.Core.Bool.{true, false, not}
+use mathlib.Core.List.{List, [], _∷_, _++_, append-nil, append-assoc}
+use Prim.Native.Nat.{ℕ, _≤_}
+use native.Mathlib.Omega.{arith}
+use borrow.Author.Tests.{eqb-false, not-true}
+use lib.Dec.{eqb, leb}
+use lib.ListN.{length, getD, drop}
+use Rattle.basics.specs.Choice.{pick, either}
+use Rattle.basics.specs.Lists.{allUpTo}
+use Rattle.basics.proofs.Flags.{left-of-both, right-of-both}
+use Rattle.dock.specs.declared.Answered.{Answered}
+use Rattle.dock.specs.declared.Answer.the-variants.{Accepted, MapDouble}
+use Rattle.dock.specs.declared.Given.the-variants.{Nothing}
+use Rattle.dock.specs.declared.Taken.{Taken}
+use Rattle.dock.specs.Answers.{answered, taken}
+use Rattle.dock.specs.Closing.{closing}
+use Rattle.dock.specs.Swap.{opened, remapped, swapped, swapOf}
+use Rattle.dock.specs.Frame.{tookFrame, frameOf}
+use Rattle.dock.specs.Read.{oldest, behindIt, remembering, replyTaken, keyByteTaken, read, readOf}
+use Rattle.frames.specs.declared.Unpacked.{Unpacked}
+use Rattle.frames.specs.declared.Unpacked.the-variants.{Byte, Broken, TooLarge}
+use Rattle.frames.specs.Frames.{unpackedOf}
+use Rattle.host.specs.Commands.{replying, commanded, rightValue, valued, given, tookByte}
+use Rattle.keying.proofs.Kept.{picked}
+use Rattle.maps.specs.Maps.{hasDouble}
+use Rattle.queue.specs.Queues.{waiting}
+use Rattle.queue.proofs.Meaning.{waiting-queueOf}
+use Rattle.record.specs.declared.Keys.{Keys}
+use Rattle.record.specs.declared.Dock.{Dock}
+use Rattle.record.specs.Parts.{withKeys, withReplies, withQueue}
+use Rattle.record.specs.Range.{inRange}
+use Rattle.runs.specs.Calls.{Call, Scan, Swap, Frame, Read, isAccepted, clears, carries, isClearing, isClearingCall}
+use Rattle.runs.specs.Worlds.{World, woken, next, afterCalls}
+use Rattle.runs.specs.Runs.{overrunsIn, undisturbed}
+use Rattle.runs.specs.Bytes.{closingBytes, frameBytes, readBytes, queuedBy, keyBytesOf, givenBy, queuedIn, givenIn}
+use Rattle.telling.proofs.Cases.{by-cases, neither-first}
+use Rattle.agreement.proofs.Framed.{mild, obeyed-mild}
+use Rattle.agreement.proofs.Taken.{some-wait}
+use Rattle.agreement.proofs.AnyCalls.{Sound, woken-sound, any-sound}
+use Rattle.agreement.proofs.Queuing.{bytesOf, closing-bytes, scan-bytes}
+
+module _ (d : Dock) where
+  -- A swap by itself queues nothing.
+  remapped-bytes : (map : List ℕ) → bytesOf (remapped d map) ≡ bytesOf d
+  unfolding remapped opened
+  remapped-bytes map = picked (λ (e : Dock). bytesOf e ≡ bytesOf d) (d .handover) _ _ refl refl
+
+  swap-bytes : (map : List ℕ) → inRange d ≡ true → bytesOf (swapOf d map .dock) ≡ bytesOf d ++ queuedBy d (Swap map)
+  unfolding swapOf swapped
+  swap-bytes map range =
+      let then = remapped d map in
+      let Grown : Answered → Type 0 =
+      λ (a : Answered). bytesOf (a .dock) ≡ bytesOf d ++ pick (isAccepted (a .answer)) (closingBytes (remapped d map)) [] in
+      let same : bytesOf d ≡ bytesOf d ++ [] = sym (append-nil (bytesOf d)) in
+      rw range
+      (picked Grown (eqb (length map) 144) _ _
+      (picked Grown (allUpTo 104 map) _ _
+      (picked Grown (hasDouble map) (answered MapDouble d) (answered Accepted (swapped d map)) same
+      (closing-bytes then ∙ ap (λ (l : List ℕ). l ++ closingBytes then) (remapped-bytes map)))
+      same)
+      same)
+
+  -- Nor does a byte from the host, unless it clears the queue.
+  took-keys : (byte : ℕ) → clears byte ≡ false → tookByte byte d .keys ≡ d .keys
+  unfolding tookByte commanded given valued
+  took-keys byte mildly =
+      let Same : Dock → Type 0 = λ (e : Dock). e .keys ≡ d .keys in
+      picked Same (eqb byte 0xfe) _ _ refl
+      (picked Same (leb 0xed byte) (commanded byte d) (given byte d)
+      (ap (λ (e : Dock). e .keys) (obeyed-mild byte d (mild byte mildly)))
+      (picked Same (rightValue (d .waiting) byte) _ _
+      (picked Same (eqb (d .waiting) 0xed) _ _ refl
+      (picked Same (eqb (d .waiting) 0xf0) _ _ refl
+      (picked Same (eqb (d .waiting) 0xf3) _ _ refl
+      refl)))
+      refl))
+
+  frame-bytes : (number : ℕ) → inRange d ≡ true → isClearing number ≡ false
+      → bytesOf (frameOf d number .dock) ≡ bytesOf d ++ queuedBy d (Frame number)
+  unfolding frameOf tookFrame isClearing closingBytes
+  frame-bytes number range = rw range (go (unpackedOf number))
+    where
+      go : (u : Unpacked) → carries clears u ≡ false
+          → bytesOf (tookFrame u d .dock) ≡ bytesOf d ++ pick (isAccepted (tookFrame u d .answer)) (frameBytes u d) []
+      go (Byte byte) mildly =
+          let then = tookByte byte d in
+          closing-bytes then ∙ ap (λ (k : Keys). waiting (k .queue) ++ closingBytes then) (took-keys byte mildly)
+      go Broken mildly = closing-bytes (replying (0xfe ∷ []) d)
+      go TooLarge mildly = sym (append-nil (bytesOf d))
+
+-- Some bytes are the first and the rest.
+first-and-rest : (l : List ℕ) → 1 ≤ length l → l ≡ getD l 0 0 ∷ drop 1 l
+first-and-rest [] some = absurd (omega arith)
+first-and-rest (x ∷ xs) some = refl
+
+read-bytes : (w : World) → Sound w
+    → bytesOf (w .dock) ++ queuedBy (w .dock) Read ≡ givenBy (w .dock) Read ++ bytesOf (readOf (w .dock) .dock)
+unfolding readOf read replyTaken keyByteTaken remembering closingBytes
+read-bytes w s =
+    let d = w .dock in
+    let q = d .keys .queue in
+    let Kept : Taken → Type 0 =
+    λ (t : Taken). bytesOf (w .dock) ++ readBytes (t .given) (w .dock) ≡ keyBytesOf (t .given) ++ bytesOf (t .dock) in
+    rw (s .range)
+    (picked Kept (eqb (d .replies .length) 0) _ (replyTaken d)
+    (by-cases Kept (eqb (q .length) 0) (taken Nothing (closing d)) (keyByteTaken d)
+    (λ none. sym (closing-bytes d))
+    (λ some.
+    let rest = withKeys d (withQueue (d .keys) (behindIt q)) in
+    let first = first-and-rest (waiting q) (some-wait q (s .settled .ready .places .bytes) (eqb-false (q .length) 0 some)) in
+    let after = closing-bytes (remembering rest (oldest q))
+    ∙ ap (λ (l : List ℕ). l ++ closingBytes rest) (waiting-queueOf (drop 1 (waiting q))) in
+    ap (λ (l : List ℕ). l ++ closingBytes rest) first ∙ ap (λ (l : List ℕ). oldest q ∷ l) (sym after)))
+    (sym (closing-bytes (remembering (withReplies d (behindIt (d .replies))) (oldest (d .replies))))))
+
+-- One call.
+pub call-keeps-bytes : (w : World) (call : Call) → Sound w → either (isClearingCall call) (overrunsIn (w .dock) call) ≡ false
+    → waiting (w .dock .keys .queue) ++ queuedBy (w .dock) call ≡ givenBy (w .dock) call ++ waiting (next w call .dock .keys .queue)
+unfolding next
+call-keeps-bytes w (Scan scan) s calm = sym (scan-bytes (w .dock) scan (s .range) calm)
+call-keeps-bytes w (Swap map) s calm = sym (swap-bytes (w .dock) map (s .range))
+call-keeps-bytes w (Frame number) s calm =
+    sym (frame-bytes (w .dock) number (s .range) (neither-first (isClearingCall (Frame number)) false calm))
+call-keeps-bytes w Read s calm = read-bytes w s
+
+-- Any calls.
+pub bytes-kept : (calls : List Call) (w : World) → Sound w → undisturbed w calls ≡ true
+    → waiting (w .dock .keys .queue) ++ queuedIn w calls ≡ givenIn w calls ++ waiting (afterCalls w calls .dock .keys .queue)
+unfolding afterCalls undisturbed queuedIn givenIn
+bytes-kept [] w s calm = append-nil (bytesOf (w .dock))
+bytes-kept (call ∷ calls) w s calm =
+    let then = next w call in
+    let disturbs = either (isClearingCall call) (overrunsIn (w .dock) call) in
+    let later = undisturbed then calls in
+    let now = call-keeps-bytes w call s (not-true disturbs (left-of-both (not disturbs) later calm)) in
+    let on = bytes-kept calls then (any-sound (call ∷ []) w s) (right-of-both (not disturbs) later calm) in
+    let queued = queuedBy (w .dock) call in
+    let given = givenBy (w .dock) call in
+    sym (append-assoc (bytesOf (w .dock)) queued (queuedIn then calls))
+    ∙ ap (λ (l : List ℕ). l ++ queuedIn then calls) now
+    ∙ append-assoc given (bytesOf (then .dock)) (queuedIn then calls)
+    ∙ ap (λ (l : List ℕ). given ++ l) on
+    ∙ sym (append-assoc given (givenIn then calls) (bytesOf (afterCalls then calls .dock)))
+
+-- So it is from any moment since power-on.
+pub bytes-kept-since : (earlier calls : List Call) → undisturbed (afterCalls woken earlier) calls ≡ true
+    → waiting (afterCalls woken earlier .dock .keys .queue) ++ queuedIn (afterCalls woken earlier) calls
+    ≡ givenIn (afterCalls woken earlier) calls ++ waiting (afterCalls (afterCalls woken earlier) calls .dock .keys .queue)
+bytes-kept-since earlier calls calm = bytes-kept calls (afterCalls woken earlier) (any-sound earlier woken woken-sound) calm
