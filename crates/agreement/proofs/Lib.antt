@@ -11,3 +11,4 @@ pub mod Giving
 pub mod Ending
 pub mod Queuing
 pub mod Queue
+pub mod Clearing
