@@ -9,18 +9,20 @@ use Rattle.dock.specs.Scan.{quiet}
 use Rattle.frames.specs.Frames.{frameOf}
 use Rattle.history.specs.Rows.{saysClosed}
 use Rattle.history.specs.Scans.{shownAt}
+use Rattle.runs.specs.Bytes.{givenIn}
 use Rattle.runs.specs.Calls.{Call, Scan, Frame, Read}
 use Rattle.runs.specs.Worlds.{woken, afterCalls}
 use Rattle.runs.specs.Runs.{mayBegin, beginning, undisturbed}
 
 -- What the calls of a story come to: may the terminal begin, is it left undisturbed, does nothing wait in the end, which keys does it
--- find down, and which do the scans say are held.
+-- find down, and which do the scans say are held. And the key bytes that were given.
 pub record Outcome : Type 0 where
   pub begins : Bool
   pub quietly : Bool
   pub empty : Bool
   pub down : List ℕ
   pub said : List ℕ
+  pub bytes : List ℕ
 
 -- The places, counted from i, of flags that are not 0.
 unfoldable pub flagged : ℕ → List ℕ → List ℕ
@@ -45,15 +47,16 @@ outcome earlier calls =
       empty = quiet (end .dock);
       down = flagged 0 (end .terminal .down);
       said = saidFrom 0 (end .dock .map) (end .scans);
+      bytes = givenIn start calls;
     }
 
--- All as demand 3 has it, with these keys down.
-abbrev pub agreeing : List ℕ → Outcome
-agreeing keys = record { begins = true; quietly = true; empty = true; down = keys; said = keys }
+-- All as demand 3 has it: these bytes were given, and these keys are down.
+abbrev pub agreeing : List ℕ → List ℕ → Outcome
+agreeing bytes keys = record { begins = true; quietly = true; empty = true; down = keys; said = keys; bytes = bytes }
 
 -- The same but for PAUSE, which is held and is never down.
-abbrev pub pauseApart : Outcome
-pauseApart = record { begins = true; quietly = true; empty = true; down = []; said = 101 ∷ [] }
+abbrev pub pauseApart : List ℕ → Outcome
+pauseApart bytes = record { begins = true; quietly = true; empty = true; down = []; said = 101 ∷ []; bytes = bytes }
 
 -- Calls up to a start, calls after it, and what they come to.
 pub record Story : Type 0 where

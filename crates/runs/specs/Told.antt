@@ -9,76 +9,87 @@ use Rattle.runs.specs.Stories.{Story, story, agreeing, pauseApart, reads
 
 -- The limestone: the 2 is held, its panel is swapped, and once all is read nothing is down.
 unfoldable pub limestone : Story
-limestone = story (reads 1) (scans 3 (showing 0 4) ++ reads 1 ++ Swap plainMap ∷ reads 2) (agreeing [])
+limestone = story (reads 1) (scans 3 (showing 0 4) ++ reads 1 ++ Swap plainMap ∷ reads 2) (agreeing (0x1e ∷ 0xf0 ∷ 0x1e ∷ []) [])
 
 -- Without the swap it stays down, and a scan or two that show it open do not bring it up.
 unfoldable pub heldOn : Story
 heldOn =
     story (reads 1)
     (scans 3 (showing 0 4) ++ reads 1 ++ scans 2 nothing ++ scans 1 (showing 0 4) ++ scans 2 nothing)
-    (agreeing (3 ∷ []))
+    (agreeing (0x1e ∷ []) (3 ∷ []))
 
 -- A repeat is read as a press of the key that is down. The quickest rate is chosen: F3 00.
 unfoldable pub repeated : Story
 repeated =
     story (reads 1 ++ host 0xf3 ++ host 0)
     (scans 63 (showing 0 4) ++ reads 1 ++ scans 8 (showing 0 4) ++ reads 1)
-    (agreeing (3 ∷ []))
+    (agreeing (0x1e ∷ 0x1e ∷ []) (3 ∷ []))
 
 -- After a swap nothing repeats, however long the new panel is left alone.
 unfoldable pub leftAlone : Story
 leftAlone =
     story (reads 1 ++ host 0xf3 ++ host 0)
     (scans 3 (showing 0 4) ++ reads 1 ++ Swap plainMap ∷ reads 2 ++ scans 61 nothing ++ reads 1)
-    (agreeing [])
+    (agreeing (0x1e ∷ 0xf0 ∷ 0x1e ∷ []) [])
 
 -- SHIFT and UP are held when the panel is swapped: both come up, UP in its base form, since SHIFT came up before it.
 unfoldable pub shiftedCursor : Story
 shiftedCursor =
-    story (reads 1) (scans 3 (showingToo 8 1 (showing 5 2)) ++ reads 6 ++ Swap plainMap ∷ reads 5) (agreeing [])
+    story (reads 1)
+    (scans 3 (showingToo 8 1 (showing 5 2)) ++ reads 6 ++ Swap plainMap ∷ reads 5)
+    (agreeing (0x12 ∷ 0xe0 ∷ 0xf0 ∷ 0x12 ∷ 0xe0 ∷ 0x75 ∷ 0xf0 ∷ 0x12 ∷ 0xe0 ∷ 0xf0 ∷ 0x75 ∷ []) [])
 
 -- The same in set 1, chosen before the terminal begins.
 unfoldable pub shiftedCursorInSet1 : Story
 shiftedCursorInSet1 =
     story (reads 1 ++ host 0xf0 ++ host 1)
     (scans 3 (showingToo 8 1 (showing 5 2)) ++ reads 5 ++ Swap plainMap ∷ reads 3)
-    (agreeing [])
+    (agreeing (0x2a ∷ 0xe0 ∷ 0xaa ∷ 0xe0 ∷ 0x48 ∷ 0xaa ∷ 0xe0 ∷ 0xc8 ∷ []) [])
 
 -- Twelve keys in five columns.
 unfoldable pub twelve : List ℕ
 twelve = showingToo 4 1 (showingToo 3 1 (showingToo 2 1 (showingToo 1 1 (showing 0 0xff))))
 
+-- Their bytes when they are pressed, and when they are released.
+unfoldable pub twelvePressed : List ℕ
+twelvePressed = 0x0e ∷ 0x16 ∷ 0x1e ∷ 0x26 ∷ 0x25 ∷ 0x2e ∷ 0x36 ∷ 0x3d ∷ 0x3e ∷ 0x1d ∷ 0x4d ∷ 0x2b ∷ []
+
+unfoldable pub twelveReleased : List ℕ
+twelveReleased =
+    0xf0 ∷ 0x0e ∷ 0xf0 ∷ 0x16 ∷ 0xf0 ∷ 0x1e ∷ 0xf0 ∷ 0x26 ∷ 0xf0 ∷ 0x25 ∷ 0xf0 ∷ 0x2e ∷ 0xf0 ∷ 0x36
+    ∷ 0xf0 ∷ 0x3d ∷ 0xf0 ∷ 0x3e ∷ 0xf0 ∷ 0x1d ∷ 0xf0 ∷ 0x4d ∷ 0xf0 ∷ 0x2b ∷ []
+
 -- They are held at a swap: eight releases fill the queue, and the rest follow as it is read. Scans in between are not counted.
 unfoldable pub longHandover : Story
 longHandover =
-    story (reads 1) (scans 3 twelve ++ reads 12 ++ Swap plainMap ∷ scans 3 (showing 0 4) ++ reads 24) (agreeing [])
+    story (reads 1) (scans 3 twelve ++ reads 12 ++ Swap plainMap ∷ scans 3 (showing 0 4) ++ reads 24) (agreeing (twelvePressed ++ twelveReleased) [])
 
 -- A second swap in the middle of it only replaces the map.
 unfoldable pub secondSwap : Story
 secondSwap =
-    story (reads 1) (scans 3 twelve ++ reads 12 ++ Swap plainMap ∷ reads 3 ++ Swap plainMap ∷ reads 21) (agreeing [])
+    story (reads 1) (scans 3 twelve ++ reads 12 ++ Swap plainMap ∷ reads 3 ++ Swap plainMap ∷ reads 21) (agreeing (twelvePressed ++ twelveReleased) [])
 
 -- Scans that come while a command waits for its value are not counted. The value turns Num Lock on, so UP has its form.
 unfoldable pub waitingCommand : Story
 waitingCommand =
     story (reads 1)
     (host 0xed ++ scans 3 (showing 0 4) ++ host 2 ++ scans 3 (showing 8 1) ++ reads 4)
-    (agreeing (65 ∷ []))
+    (agreeing (0xe0 ∷ 0x12 ∷ 0xe0 ∷ 0x75 ∷ []) (65 ∷ []))
 
 -- Scans counted before the terminal begins count: the third comes after it.
 unfoldable pub thirdScan : Story
-thirdScan = story (reads 1 ++ scans 2 (showing 0 4)) (scans 1 (showing 0 4) ++ reads 1) (agreeing (3 ∷ []))
+thirdScan = story (reads 1 ++ scans 2 (showing 0 4)) (scans 1 (showing 0 4) ++ reads 1) (agreeing (0x1e ∷ []) (3 ∷ []))
 
 -- PAUSE is struck, and not down.
 unfoldable pub pauseStruck : Story
-pauseStruck = story (reads 1) (scans 3 (showing 12 0x10) ++ reads 8) pauseApart
+pauseStruck = story (reads 1) (scans 3 (showing 12 0x10) ++ reads 8) (pauseApart (0xe1 ∷ 0x14 ∷ 0x77 ∷ 0xe1 ∷ 0xf0 ∷ 0x14 ∷ 0xf0 ∷ 0x77 ∷ []))
 
 -- Refused calls of every kind change nothing.
 unfoldable pub refusals : Story
 refusals =
     story (reads 1)
     (Scan [] ∷ Swap [] ∷ Swap (replicate 144 105) ∷ Swap (replicate 144 1) ∷ Frame 2048 ∷ scans 3 (showing 0 4) ++ reads 1)
-    (agreeing (3 ∷ []))
+    (agreeing (0x1e ∷ []) (3 ∷ []))
 
 -- All of them.
 unfoldable pub stories : List Story
