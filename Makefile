@@ -2,7 +2,8 @@
 # make bench  leaves the bench in build/bin
 # make test   proves and tests everything
 # make lib    puts the static library and its header into build/lib
-.PHONY: run bench test lib clean
+# make speed  counts the instructions of a line of each kind of load
+.PHONY: run bench test lib speed clean
 
 run: bench
 	@echo "The session of crates/bench/stdin, line by line, prints:"
@@ -16,6 +17,9 @@ test:
 
 lib:
 	@scripts/lib
+
+speed:
+	@scripts/speed
 
 clean:
 	rm -rf build target

@@ -1,17 +1,35 @@
 /* keydock.h: PS/2 key codes and frames, for the terminal's service program.
  *
- * Link with libkeydock.a (x86-64). Every function is proved to answer as said
- * here for every argument. None keeps anything between calls, so all may be
- * called from any thread.
+ *     cc program.c libkeydock.a          (x86-64 Linux)
+ *
+ * What UP sends with the left SHIFT held, each byte with its frame:
  *
  *     uint8_t bytes[KEYDOCK_CODES_MAX];
- *     int count = keydock_key_codes(2, 65, KEYDOCK_PRESS, KEYDOCK_TYPEMATIC,
- *                                   KEYDOCK_SHIFT_LEFT, 0, bytes, sizeof bytes);
- *     for (int i = 0; i < count; i++)
- *         printf("%02X as frame %03X\n", bytes[i], keydock_pack_frame(bytes[i]));
+ *     int32_t count = keydock_key_codes(2, KEYDOCK_KEY_UP, KEYDOCK_PRESS, KEYDOCK_TYPEMATIC,
+ *                                       KEYDOCK_SHIFT_LEFT, 0, bytes, sizeof bytes);
+ *     for (int32_t i = 0; i < count; i++)
+ *         printf("%02X as frame %03X\n", (unsigned)bytes[i], (unsigned)keydock_pack_frame(bytes[i]));
  *
- * Where a result is an int, 0 or more is an answer and a negative number is a
- * refusal: minus the number that the dock's rules have for it.
+ * And those bytes read back, one at a time:
+ *
+ *     uint32_t state = KEYDOCK_STATE_START;
+ *     for (int32_t i = 0; i < count; i++) {
+ *         int32_t answer = keydock_read_byte(2, state, bytes[i]);
+ *         if (KEYDOCK_EVENT(answer) == KEYDOCK_PRESSED)
+ *             printf("key %u was pressed\n", KEYDOCK_KEY(answer));
+ *         state = KEYDOCK_STATE(answer);
+ *     }
+ *
+ * Where a result is an int32_t, 0 or more is an answer. A refusal is negative: minus the
+ * number that the dock's rules have for it. A refused call changes nothing.
+ *
+ * Every function is proved to answer as said here for every argument, so any number may be
+ * passed: one that is out of its range is refused. (A negative number becomes a large one on its
+ * way to a uint32_t, and a number over 255 loses its upper bits on its way to a uint8_t.) The one
+ * thing that no function can look at is whether the memory at `out` is there.
+ *
+ * Nothing is kept between calls and nothing is allocated. All functions may be called from
+ * any number of threads at once.
  */
 #ifndef KEYDOCK_H
 #define KEYDOCK_H
@@ -32,30 +50,61 @@ extern "C" {
 
 /* ---- frames ---- */
 
-/* The 11-bit frame of a byte: start bit 0, the byte from bit 1 on, odd parity at
- * bit 9, stop bit 1 at bit 10. */
+#define KEYDOCK_FRAME_MAX 2047 /* a frame is eleven bits */
+
+/* The frame of a byte: start bit 0 at bit 0, the byte from bit 1 on, odd parity at
+ * bit 9, stop bit 1 at bit 10. FA gives 0x7F4. */
 uint16_t keydock_pack_frame(uint8_t byte);
 
 /* The byte in a frame, 0 to 255; KEYDOCK_BROKEN_FRAME if one of its start, parity
- * and stop bits is wrong; KEYDOCK_REFUSED_FRAME for a number over 2047. */
+ * and stop bits is wrong; KEYDOCK_REFUSED_FRAME for a number over KEYDOCK_FRAME_MAX. */
 int32_t keydock_unpack_frame(uint32_t frame);
 
 /* ---- the codes of one key ---- */
 
 #define KEYDOCK_CODES_MAX 8 /* no key sends more bytes at once */
-#define KEYDOCK_KEYS 104    /* keys are numbered from 1 to this */
+#define KEYDOCK_KEYS 104    /* keys are numbered from 1 to this, row by row over the keyboard */
+
+enum {
+    KEYDOCK_KEY_GRAVE = 1, KEYDOCK_KEY_1, KEYDOCK_KEY_2, KEYDOCK_KEY_3, KEYDOCK_KEY_4, KEYDOCK_KEY_5,
+    KEYDOCK_KEY_6, KEYDOCK_KEY_7, KEYDOCK_KEY_8, KEYDOCK_KEY_9, KEYDOCK_KEY_0, KEYDOCK_KEY_MINUS,
+    KEYDOCK_KEY_EQUALS, KEYDOCK_KEY_BACKSPACE,
+    KEYDOCK_KEY_TAB = 15, KEYDOCK_KEY_Q, KEYDOCK_KEY_W, KEYDOCK_KEY_E, KEYDOCK_KEY_R, KEYDOCK_KEY_T,
+    KEYDOCK_KEY_Y, KEYDOCK_KEY_U, KEYDOCK_KEY_I, KEYDOCK_KEY_O, KEYDOCK_KEY_P, KEYDOCK_KEY_BRACKET_LEFT,
+    KEYDOCK_KEY_BRACKET_RIGHT, KEYDOCK_KEY_BACKSLASH,
+    KEYDOCK_KEY_CAPS = 29, KEYDOCK_KEY_A, KEYDOCK_KEY_S, KEYDOCK_KEY_D, KEYDOCK_KEY_F, KEYDOCK_KEY_G,
+    KEYDOCK_KEY_H, KEYDOCK_KEY_J, KEYDOCK_KEY_K, KEYDOCK_KEY_L, KEYDOCK_KEY_SEMICOLON,
+    KEYDOCK_KEY_APOSTROPHE, KEYDOCK_KEY_ENTER,
+    KEYDOCK_KEY_SHIFT_LEFT = 42, KEYDOCK_KEY_Z, KEYDOCK_KEY_X, KEYDOCK_KEY_C, KEYDOCK_KEY_V,
+    KEYDOCK_KEY_B, KEYDOCK_KEY_N, KEYDOCK_KEY_M, KEYDOCK_KEY_COMMA, KEYDOCK_KEY_DOT, KEYDOCK_KEY_SLASH,
+    KEYDOCK_KEY_SHIFT_RIGHT,
+    KEYDOCK_KEY_CTRL_LEFT = 54, KEYDOCK_KEY_ALT_LEFT, KEYDOCK_KEY_SPACE, KEYDOCK_KEY_ALT_RIGHT,
+    KEYDOCK_KEY_CTRL_RIGHT,
+    KEYDOCK_KEY_INS = 59, KEYDOCK_KEY_DEL, KEYDOCK_KEY_HOME, KEYDOCK_KEY_END, KEYDOCK_KEY_PAGE_UP,
+    KEYDOCK_KEY_PAGE_DOWN, KEYDOCK_KEY_UP, KEYDOCK_KEY_LEFT, KEYDOCK_KEY_DOWN, KEYDOCK_KEY_RIGHT,
+    KEYDOCK_KEY_NUM = 69, KEYDOCK_KEY_PAD_SLASH, KEYDOCK_KEY_PAD_STAR, KEYDOCK_KEY_PAD_MINUS,
+    KEYDOCK_KEY_PAD_PLUS, KEYDOCK_KEY_PAD_ENTER, KEYDOCK_KEY_PAD_DEL,
+    KEYDOCK_KEY_PAD_0 = 76, KEYDOCK_KEY_PAD_1, KEYDOCK_KEY_PAD_2, KEYDOCK_KEY_PAD_3, KEYDOCK_KEY_PAD_4,
+    KEYDOCK_KEY_PAD_5, KEYDOCK_KEY_PAD_6, KEYDOCK_KEY_PAD_7, KEYDOCK_KEY_PAD_8, KEYDOCK_KEY_PAD_9,
+    KEYDOCK_KEY_ESC = 86, KEYDOCK_KEY_F1, KEYDOCK_KEY_F2, KEYDOCK_KEY_F3, KEYDOCK_KEY_F4, KEYDOCK_KEY_F5,
+    KEYDOCK_KEY_F6, KEYDOCK_KEY_F7, KEYDOCK_KEY_F8, KEYDOCK_KEY_F9, KEYDOCK_KEY_F10, KEYDOCK_KEY_F11,
+    KEYDOCK_KEY_F12,
+    KEYDOCK_KEY_PRINT = 99, KEYDOCK_KEY_SCROLL, KEYDOCK_KEY_PAUSE, KEYDOCK_KEY_WIN_LEFT,
+    KEYDOCK_KEY_WIN_RIGHT, KEYDOCK_KEY_APP
+};
 
 enum { KEYDOCK_PRESS = 0, KEYDOCK_RELEASE = 1, KEYDOCK_REPEAT = 2 };
 
-/* A key's type counts in set 3 alone. */
+/* A key's type says in set 3 whether it sends a release and whether it repeats. In sets 1
+ * and 2 it does not matter, but has to be one of these all the same. */
 enum {
-    KEYDOCK_TYPEMATIC = 0,
-    KEYDOCK_MAKE_BREAK = 1,
-    KEYDOCK_MAKE = 2,
-    KEYDOCK_TYPEMATIC_MAKE_BREAK = 3
+    KEYDOCK_TYPEMATIC = 0,           /* repeats */
+    KEYDOCK_MAKE_BREAK = 1,          /* sends a release */
+    KEYDOCK_MAKE = 2,                /* neither */
+    KEYDOCK_TYPEMATIC_MAKE_BREAK = 3 /* both */
 };
 
-/* The modifier keys that are held, added up. */
+/* The modifier keys that are held, added up. They do not matter in set 3. */
 enum {
     KEYDOCK_SHIFT_LEFT = 1,
     KEYDOCK_SHIFT_RIGHT = 2,
@@ -70,36 +119,40 @@ enum {
  *   key        1 to 104
  *   event      KEYDOCK_PRESS, _RELEASE or _REPEAT; a repeat that is not allowed has no bytes
  *   type       KEYDOCK_TYPEMATIC .. KEYDOCK_TYPEMATIC_MAKE_BREAK
- *   modifiers  0 to 63
- *   num_lock   0 or 1
- *   out        `length` bytes that may be written, 8 or more
- * Only the bytes counted by the answer are written. KEYDOCK_REFUSED_CHOICE for an
- * argument out of its range, else KEYDOCK_REFUSED_OUTPUT for a `length` under 8: then
- * nothing is written. */
+ *   modifiers  0 to 63: those held at the event itself
+ *   num_lock   0 off, 1 on
+ *   out        `length` bytes that may be written; it may be NULL if `length` is 0
+ *   length     8 or more, even if fewer bytes would do
+ * Only the bytes counted by the answer are written, the others keep what they hold.
+ * KEYDOCK_REFUSED_CHOICE for an argument out of its range, else KEYDOCK_REFUSED_OUTPUT for a
+ * `length` under 8: then nothing is written. */
 int32_t keydock_key_codes(uint32_t set, uint32_t key, uint32_t event, uint32_t type, uint32_t modifiers,
                           uint32_t num_lock, uint8_t *out, size_t length);
 
 /* ---- reading key bytes back ---- */
 
-#define KEYDOCK_STATE_START 0 /* the state to begin in */
+#define KEYDOCK_STATE_START 0 /* the state to begin in: nothing of a sequence was read */
+#define KEYDOCK_STATE_MAX 14
 
 enum {
     KEYDOCK_MORE = 0,     /* the sequence goes on */
     KEYDOCK_PRESSED = 1,  /* a key was pressed, or repeats */
     KEYDOCK_RELEASED = 2, /* a key was released */
-    KEYDOCK_PAUSE = 3,    /* PAUSE was struck (sets 1 and 2) */
+    KEYDOCK_PAUSE = 3,    /* PAUSE was struck (sets 1 and 2, where its release sends nothing) */
     KEYDOCK_WRAPPING = 4, /* shift wrapping or the end of Ctrl-Pause: no key moved */
-    KEYDOCK_OVERRUN = 5,  /* the dock's queue was full */
+    KEYDOCK_OVERRUN = 5,  /* the dock's queue was full: bytes are missing here */
     KEYDOCK_UNKNOWN = 6   /* no code of this set */
 };
 
 /* Reads one key byte in a set, 1 to 3, and a state, 0 to 14. The answer holds three
  * numbers: KEYDOCK_EVENT, KEYDOCK_KEY (0 unless pressed or released) and KEYDOCK_STATE,
- * the state for the next byte. KEYDOCK_REFUSED_STATE for a state over 14, else
- * KEYDOCK_REFUSED_CHOICE for another set: the state stays what it was. */
+ * the state for the next byte, which is KEYDOCK_STATE_START after every event but
+ * KEYDOCK_MORE. KEYDOCK_REFUSED_STATE for a state over KEYDOCK_STATE_MAX, else
+ * KEYDOCK_REFUSED_CHOICE for another set; a refusal holds no event, key or state. */
 int32_t keydock_read_byte(uint32_t set, uint32_t state, uint8_t byte);
 
-#define KEYDOCK_EVENT(answer) ((unsigned)(answer)&255u)
+/* What an answer of keydock_read_byte holds, if it is no refusal. */
+#define KEYDOCK_EVENT(answer) ((unsigned)(answer) & 255u)
 #define KEYDOCK_KEY(answer) ((unsigned)(answer) >> 8 & 255u)
 #define KEYDOCK_STATE(answer) ((unsigned)(answer) >> 16)
 
