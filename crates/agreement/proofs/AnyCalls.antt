@@ -18,7 +18,7 @@ use Rattle.record.proofs.PowerOn.{power-on-in-range}
 use Rattle.runs.specs.Calls.{Call, Scan, Swap, Frame, Read, isClearingCall}
 use Rattle.runs.specs.Worlds.{World, woken, next, afterCalls}
 use Rattle.runs.specs.Runs.{overrunsIn, undisturbed}
-use Rattle.telling.proofs.Cases.{neither-first}
+use Rattle.basics.proofs.Cases.{neither-first}
 use Rattle.telling.proofs.Held.{none-agree, zeros-at, contact-open}
 use Rattle.agreement.proofs.Ready.{Settled, shut-settled, never}
 use Rattle.agreement.proofs.Following.{Follows}

@@ -21,7 +21,7 @@ use Rattle.record.specs.Power.{freshWith}
 use Rattle.record.specs.Range.{inRange}
 use Rattle.runs.specs.Calls.{Frame, isAccepted, clears, carries, isClearing}
 use Rattle.runs.specs.Bytes.{closingBytes, frameBytes, queuedBy}
-use Rattle.telling.proofs.Cases.{by-cases}
+use Rattle.basics.proofs.Cases.{by-cases}
 use Rattle.agreement.proofs.Ready.{never}
 use Rattle.agreement.proofs.Queuing.{bytesOf, closing-bytes}
 

@@ -21,7 +21,7 @@ use Rattle.record.specs.Parts.{withKeys, withReplies, withQueue}
 use Rattle.record.specs.Range.{inRange}
 use Rattle.runs.specs.Calls.{Call, Read}
 use Rattle.runs.specs.Worlds.{World, woken, next, afterCalls}
-use Rattle.telling.proofs.Cases.{by-cases}
+use Rattle.basics.proofs.Cases.{by-cases}
 use Rattle.telling.proofs.Lessening.{toRead, held-most, handed-less}
 use Rattle.agreement.proofs.Ready.{never}
 use Rattle.agreement.proofs.Taken.{some-wait}

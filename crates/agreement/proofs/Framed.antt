@@ -26,7 +26,7 @@ use Rattle.record.specs.Range.{takesValue, inRange}
 use Rattle.runs.specs.Calls.{isAccepted, clears, carries, isClearing}
 use Rattle.runs.specs.Worlds.{isReset, scansAfterFrame}
 use Rattle.telling.proofs.Held.{none-agree, zeros-at, contact-open}
-use Rattle.telling.proofs.Cases.{by-cases, neither-first, neither-second}
+use Rattle.basics.proofs.Cases.{by-cases, neither-first, neither-second}
 use Rattle.terminal.specs.Terminals.{Terminal}
 use Rattle.agreement.proofs.Following.{Follows, closing-follows}
 use Rattle.agreement.proofs.Ready.{IsReady, Settled, never, same-flags, closing-settled}

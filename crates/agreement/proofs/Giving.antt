@@ -19,7 +19,7 @@ use Rattle.record.specs.Parts.{withKeys, withReplies, withQueue}
 use Rattle.runs.specs.Calls.{Call, Read}
 use Rattle.runs.specs.Worlds.{World, woken, next, afterCalls}
 use Rattle.runs.specs.Bytes.{foremost}
-use Rattle.telling.proofs.Cases.{by-cases}
+use Rattle.basics.proofs.Cases.{by-cases}
 use Rattle.agreement.proofs.Following.{none-wait}
 use Rattle.agreement.proofs.Bounds.{Steady, closing-replies, keys-counted, replies-counted, reached-steady}
 

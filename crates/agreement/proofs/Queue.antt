@@ -37,7 +37,7 @@ use Rattle.runs.specs.Calls.{Call, Scan, Swap, Frame, Read, isAccepted, clears,
 use Rattle.runs.specs.Worlds.{World, woken, next, afterCalls}
 use Rattle.runs.specs.Runs.{overrunsIn, undisturbed}
 use Rattle.runs.specs.Bytes.{closingBytes, frameBytes, readBytes, queuedBy, keyBytesOf, givenBy, queuedIn, givenIn}
-use Rattle.telling.proofs.Cases.{by-cases, neither-first}
+use Rattle.basics.proofs.Cases.{by-cases, neither-first}
 use Rattle.agreement.proofs.Framed.{mild, obeyed-mild}
 use Rattle.agreement.proofs.Taken.{some-wait}
 use Rattle.agreement.proofs.AnyCalls.{Sound, woken-sound, any-sound}

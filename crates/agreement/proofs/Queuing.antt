@@ -29,7 +29,7 @@ use Rattle.runs.specs.Runs.{overruns}
 use Rattle.runs.specs.Bytes.{repeatBytes, changeBytes, heardBytes, closingBytes, scanBytes, queuedBy}
 use Rattle.telling.specs.Overruns.{overrunsTo}
 use Rattle.telling.specs.Queued.{turnBytes}
-use Rattle.telling.proofs.Cases.{two-by-cases}
+use Rattle.basics.proofs.Cases.{two-by-cases}
 use Rattle.telling.proofs.Whole.{turns-whole, handed-whole}
 use Rattle.agreement.proofs.Following.{none-wait}
 

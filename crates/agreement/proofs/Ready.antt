@@ -18,7 +18,7 @@ use Rattle.queue.specs.Queues.{waiting}
 use Rattle.record.specs.declared.Keys.{Keys}
 use Rattle.record.specs.declared.Dock.{Dock}
 use Rattle.telling.specs.Agreeing.{Agrees, Once, Outside, Repeats}
-use Rattle.telling.proofs.Cases.{by-cases}
+use Rattle.basics.proofs.Cases.{by-cases}
 use Rattle.telling.proofs.Held.{none-agree, contact-open}
 use Rattle.telling.proofs.Handing.{handed-outside, handed-all, handed-waits}
 use Rattle.telling.proofs.Repeating.{handed-repeat}

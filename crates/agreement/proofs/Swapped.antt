@@ -20,7 +20,7 @@ use Rattle.record.specs.Parts.{withMap}
 use Rattle.record.specs.Range.{inRange}
 use Rattle.runs.specs.Calls.{isAccepted}
 use Rattle.runs.specs.Worlds.{scansAfterSwap}
-use Rattle.telling.proofs.Cases.{by-cases}
+use Rattle.basics.proofs.Cases.{by-cases}
 use Rattle.keying.proofs.Kept.{picked}
 use Rattle.terminal.specs.Terminals.{Terminal}
 use Rattle.agreement.proofs.Following.{Follows, closing-follows}

@@ -20,7 +20,7 @@ use Rattle.record.specs.declared.Dock.{Dock}
 use Rattle.record.specs.Parts.{withKeys, withReplies, withQueue}
 use Rattle.record.specs.Range.{inRange}
 use Rattle.runs.specs.Worlds.{takes}
-use Rattle.telling.proofs.Cases.{by-cases}
+use Rattle.basics.proofs.Cases.{by-cases}
 use Rattle.telling.proofs.Told.{byte-told}
 use Rattle.terminal.specs.Terminals.{Terminal, hears}
 use Rattle.agreement.proofs.Following.{Follows, closing-follows}

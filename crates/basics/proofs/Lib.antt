@@ -3,3 +3,4 @@ pub mod Maps
 pub mod Flags
 pub mod Limits
 pub mod Once
+pub mod Cases

@@ -9,17 +9,10 @@ use borrow.Author.Tests.{eq-eqb, ne-eqb, eqb-true}
 use lib.Dec.{eqb}
 use lib.ListN.{length, getD}
 use Rattle.basics.specs.Choice.{both, either}
+use Rattle.basics.proofs.Cases.{neither-first, neither-second}
 use Rattle.maps.specs.Maps.{isIn, hasDouble}
 use Rattle.history.specs.Rows.{saysClosed}
 use Rattle.history.specs.Scans.{shownAt, saysHeldFrom, saysHeld}
-
-left-of-either : (a b : Bool) → either a b ≡ false → a ≡ false
-left-of-either true b e = e
-left-of-either false b e = refl
-
-right-of-either : (a b : Bool) → either a b ≡ false → b ≡ false
-right-of-either true b e = cc
-right-of-either false b e = e
 
 -- A key of the map stands somewhere,
 pub found-at : (key : ℕ) (map : List ℕ) → isIn key map ≡ true → (position : ℕ) × (position < length map) × (getD map position 0 ≡ key)
@@ -51,11 +44,11 @@ absent-at key map e position h g = false≢true (sym e ∙ rw (← g) (is-in-at 
 module _ (k : ℕ) (ks : List ℕ) (d : hasDouble (k ∷ ks) ≡ false) where
   not-again : (k ≡ 0 → ⊥) → isIn k ks ≡ false
   unfolding hasDouble
-  not-again n = left-of-either (isIn k ks) (hasDouble ks) (rw (ne-eqb k 0 n) at d)
+  not-again n = neither-first (isIn k ks) (hasDouble ks) (rw (ne-eqb k 0 n) at d)
 
   no-double-after : hasDouble ks ≡ false
   unfolding hasDouble
-  no-double-after = right-of-either (both (not (eqb k 0)) (isIn k ks)) (hasDouble ks) d
+  no-double-after = neither-second (both (not (eqb k 0)) (isIn k ks)) (hasDouble ks) d
 
 pub one-place : (map : List ℕ) → hasDouble map ≡ false → (p q : ℕ) → p < length map → q < length map
     → getD map p 0 ≡ getD map q 0 → (getD map p 0 ≡ 0 → ⊥) → p ≡ q
@@ -71,7 +64,7 @@ nowhere-from : (from : ℕ) (map : List ℕ) (scans : List (List ℕ)) (key : �
 unfolding saysHeldFrom isIn
 nowhere-from from [] scans key e = refl
 nowhere-from from (k ∷ ks) scans key e =
-    rw (left-of-either (eqb k key) (isIn key ks) e) (nowhere-from (suc from) ks scans key (right-of-either (eqb k key) (isIn key ks) e))
+    rw (neither-first (eqb k key) (isIn key ks) e) (nowhere-from (suc from) ks scans key (neither-second (eqb k key) (isIn key ks) e))
 
 pub says-held-nowhere : (map : List ℕ) (scans : List (List ℕ)) (key : ℕ) → isIn key map ≡ false → saysHeld map scans key ≡ false
 unfolding saysHeld

@@ -24,7 +24,7 @@ use Rattle.keying.proofs.Kept.{picked, handed-keeps}
 use Rattle.record.specs.declared.Mode.{Mode}
 use Rattle.record.specs.declared.Keys.{Keys}
 use Rattle.telling.specs.Agreeing.{Outside, Lowest, counted, heldTo, heldCount}
-use Rattle.telling.proofs.Cases.{by-cases, neither-first, neither-second}
+use Rattle.basics.proofs.Cases.{by-cases, neither-first, neither-second}
 
 -- A flag that is taken down is down, also where there is no place for one,
 pub down-own : (held : List ℕ) (key : ℕ) → getD (set held key 0) key 0 ≡ 0

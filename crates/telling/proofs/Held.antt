@@ -20,7 +20,7 @@ use Rattle.keying.proofs.Kept.{turns-keep}
 use Rattle.record.specs.declared.Mode.{Mode}
 use Rattle.record.specs.declared.Keys.{Keys}
 use Rattle.telling.specs.Agreeing.{Agrees, Once}
-use Rattle.telling.proofs.Cases.{by-cases}
+use Rattle.basics.proofs.Cases.{by-cases}
 
 -- There are 144 flags, whatever turns.
 abbrev Flags : Keys → Type 0

@@ -18,7 +18,7 @@ use Rattle.keying.proofs.Kept.{picked}
 use Rattle.record.specs.declared.Mode.{Mode}
 use Rattle.record.specs.declared.Keys.{Keys}
 use Rattle.telling.specs.Agreeing.{counted, heldTo, heldCount}
-use Rattle.telling.proofs.Cases.{by-cases}
+use Rattle.basics.proofs.Cases.{by-cases}
 use Rattle.telling.proofs.Handing.{down-own, down-any, held-up, fewer-held}
 use Rattle.telling.proofs.Whole.{released-whole}
 

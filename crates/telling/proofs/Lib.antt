@@ -1,4 +1,3 @@
-pub mod Cases
 pub mod Turning
 pub mod Whole
 pub mod Told

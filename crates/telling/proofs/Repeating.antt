@@ -19,7 +19,7 @@ use Rattle.keying.proofs.Kept.{picked, handed-keeps, turns-keep}
 use Rattle.record.specs.declared.Mode.{Mode}
 use Rattle.record.specs.declared.Keys.{Keys}
 use Rattle.telling.specs.Agreeing.{Outside, Repeats}
-use Rattle.telling.proofs.Cases.{by-cases}
+use Rattle.basics.proofs.Cases.{by-cases}
 use Rattle.telling.proofs.Held.{pressed-flags, released-flags, turns-other}
 
 abbrev Kept : Keys → Type 0

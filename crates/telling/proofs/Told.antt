@@ -31,7 +31,7 @@ use Rattle.terminal.specs.Terminals.{Terminal, terminal, hears, hearsAll}
 use Rattle.terminal.proofs.Hearing.{hears-more, hears-first}
 use Rattle.terminal.proofs.Heard.{press-heard, release-heard, repeat-heard}
 use Rattle.telling.specs.Overruns.{overrunsAt, overrunsTo}
-use Rattle.telling.proofs.Cases.{by-cases, neither-first, neither-second}
+use Rattle.basics.proofs.Cases.{by-cases, neither-first, neither-second}
 use Rattle.telling.proofs.Turning.{Fits, each-turn}
 use Rattle.telling.proofs.Whole.{pressed-whole, released-whole}
 

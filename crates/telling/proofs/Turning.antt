@@ -19,7 +19,7 @@ use Rattle.record.specs.declared.Mode.{Mode}
 use Rattle.record.specs.declared.Keys.{Keys}
 use Rattle.telling.specs.Overruns.{lacksRoom, overrunsAt}
 use Rattle.telling.specs.Queued.{moveBytes, turnBytesAt}
-use Rattle.telling.proofs.Cases.{two-by-cases}
+use Rattle.basics.proofs.Cases.{two-by-cases}
 
 -- The bytes of an action have room.
 abbrev pub Fits : Keys → Mode → ℕ → ℕ → Action → Type 0

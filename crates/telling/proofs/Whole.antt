@@ -26,7 +26,7 @@ use Rattle.keying.proofs.Sent.{sends-short}
 use Rattle.keying.proofs.Kept.{picked, turns-keep, handed-keeps}
 use Rattle.telling.specs.Overruns.{overrunsAt, overrunsTo}
 use Rattle.telling.specs.Queued.{turnBytes, handedBytes}
-use Rattle.telling.proofs.Cases.{two-by-cases, neither-first, neither-second}
+use Rattle.basics.proofs.Cases.{two-by-cases, neither-first, neither-second}
 use Rattle.telling.proofs.Turning.{Fits, each-turn}
 
 -- At most 16 bytes wait.
