@@ -12,3 +12,4 @@ pub mod Ending
 pub mod Queuing
 pub mod Queue
 pub mod Clearing
+pub mod Refusals
