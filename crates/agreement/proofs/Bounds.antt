@@ -131,7 +131,7 @@ pub next-steady : (w : World) (call : Call) → Steady w → Steady (next w call
 unfolding afterCalls
 next-steady w call s = record { sound = any-sound (call ∷ []) w (s .sound); roomy = next-roomy w call (s .roomy) }
 
-any-steady : (calls : List Call) (w : World) → Steady w → Steady (afterCalls w calls)
+pub any-steady : (calls : List Call) (w : World) → Steady w → Steady (afterCalls w calls)
 unfolding afterCalls
 any-steady [] w s = s
 any-steady (call ∷ calls) w s = any-steady calls (next w call) (next-steady w call s)

@@ -1,15 +1,18 @@
--- A handover ends: each read of an open one leaves less to be read, no read opens one, and so from any moment since power-on 968 reads
--- or more leave none open. Assumes nothing.
-use mathlib.Core.Path.{_≡_, refl}
+-- Reads make the dock quiet, and end a handover: while something waits each read leaves less to be read, and where nothing waits it
+-- changes nothing, so that from any moment since power-on 968 reads or more leave nothing waiting. Assumes nothing.
+use mathlib.Core.Path.{_≡_, refl, ap}
 use mathlib.Core.Bool.{Bool, true, false}
-use mathlib.Core.List.{List}
+use mathlib.Core.List.{List, []}
 use Prim.Native.Nat.{ℕ, zero, suc, _+_, _≤_, _<_}
 use native.Mathlib.Omega.{arith}
-use borrow.Author.Tests.{eqb-true, eqb-false}
+use borrow.Author.Tests.{eqb-true, eqb-false, eq-eqb}
 use lib.Dec.{eqb}
 use lib.ListN.{length, replicate, length-drop}
+use Rattle.basics.proofs.Cases.{by-cases}
+use Rattle.basics.proofs.Flags.{left-of-both, right-of-both}
 use Rattle.dock.specs.declared.Taken.{Taken}
 use Rattle.dock.specs.Closing.{withHanded, closing}
+use Rattle.dock.specs.Scan.{quiet}
 use Rattle.dock.specs.Read.{oldest, behindIt, remembering, replyTaken, keyByteTaken, read, readOf}
 use Rattle.keying.specs.Handover.{handedOver}
 use Rattle.keying.proofs.Kept.{picked}
@@ -18,20 +21,20 @@ use Rattle.queue.specs.Queues.{waiting}
 use Rattle.queue.proofs.Meaning.{waiting-queueOf}
 use Rattle.record.specs.declared.Dock.{Dock}
 use Rattle.record.specs.Parts.{withKeys, withReplies, withQueue}
-use Rattle.record.specs.Range.{inRange}
 use Rattle.runs.specs.Calls.{Call, Read}
 use Rattle.runs.specs.Worlds.{World, woken, next, afterCalls}
-use Rattle.basics.proofs.Cases.{by-cases}
 use Rattle.telling.proofs.Lessening.{toRead, held-most, handed-less}
-use Rattle.agreement.proofs.Ready.{never}
+use Rattle.agreement.proofs.Ready.{Settled, never}
+use Rattle.agreement.proofs.Following.{none-wait}
 use Rattle.agreement.proofs.Taken.{some-wait}
-use Rattle.agreement.proofs.Bounds.{Steady, keys-counted, keys-few, replies-few, next-steady, reached-steady}
+use Rattle.agreement.proofs.AnyCalls.{any-sound}
+use Rattle.agreement.proofs.Bounds.{Steady, keys-counted, replies-counted, keys-few, replies-few, next-steady, reached-steady}
 
 -- What is still to be read: the replies, the key bytes, and nine for each held key, more than its release.
 abbrev pub stillToRead : Dock → ℕ
 stillToRead d = length (waiting (d .replies)) + toRead (d .keys)
 
--- The end of a call does not make more of it,
+-- The end of a call does not make more of it.
 closing-less : (d : Dock) → stillToRead (closing d) ≤ stillToRead d
 unfolding closing
 closing-less d =
@@ -40,79 +43,88 @@ closing-less d =
     (omega arith)
     (omega arith)
 
--- and opens no handover.
-closing-shut : (d : Dock) → d .handover ≡ false → closing d .handover ≡ false
-unfolding closing
-closing-shut d shut =
-    by-cases (λ (e : Dock). e .handover ≡ false) (d .handover) _ d (λ opened. never (d .handover) opened shut) (λ same. same)
-
 -- A queue without its oldest byte is shorter.
 behind-less : (q : Queue) → 1 ≤ length (waiting q) → length (waiting (behindIt q)) < length (waiting q)
 behind-less q some = rw waiting-queueOf (omega (arith, length-drop 1 (waiting q)))
 
-module _ (w : World) where
+-- Nothing waits in the queue of a quiet dock,
+pub quiet-empty : (d : Dock) → quiet d ≡ true → waiting (d .keys .queue) ≡ []
+quiet-empty d e =
+    let n = d .keys .queue .length in
+    none-wait (d .keys .queue) (eqb-true n 0 (right-of-both (eqb (d .replies .length) 0) (eqb n 0) e))
+
+-- and no handover is open: one that is has bytes waiting.
+pub quiet-shut : (d : Dock) (scans : List (List ℕ)) → Settled d scans → quiet d ≡ true → d .handover ≡ false
+quiet-shut d scans s e = go (d .handover) refl
+  where
+    go : (b : Bool) → d .handover ≡ b → b ≡ false
+    go false h = refl
+    go true h = let many = s .waits h in let none = ap length (quiet-empty d e) in absurd (omega arith)
+
+module _ (w : World) (s : Steady w) where
   d : Dock
   d = w .dock
 
   Less : Taken → Type 0
   Less t = stillToRead (t .dock) < stillToRead (w .dock)
 
-  -- While a handover is open, a read leaves less to be read.
-  pub read-brings-on : Steady w → w .dock .handover ≡ true → stillToRead (next w Read .dock) < stillToRead (w .dock)
+  -- While something waits, a read leaves less to be read,
+  pub read-brings-on : quiet (w .dock) ≡ false → stillToRead (next w Read .dock) < stillToRead (w .dock)
   unfolding d Less next readOf read replyTaken keyByteTaken remembering
-  read-brings-on s opened =
+  read-brings-on waits =
       let q = d .keys .queue in
-      let many : 9 ≤ length (waiting q) = s .sound .settled .waits opened in
       rw (s .sound .range)
       (by-cases Less (eqb (d .replies .length) 0) _ _
       (λ none. by-cases Less (eqb (q .length) 0) _ (keyByteTaken d)
-      (λ empty. absurd (omega (arith, eqb-true (q .length) 0 empty, keys-counted w (s .sound))))
+      (λ empty. never (quiet d) (rw (none, empty)) waits)
       (λ some.
+      let first = some-wait q (s .sound .settled .ready .places .bytes) (eqb-false (q .length) 0 some) in
       let rest = remembering (withKeys d (withQueue (d .keys) (behindIt q))) (oldest q) in
-      omega (arith, closing-less rest, behind-less q (omega arith))))
+      omega (arith, closing-less rest, behind-less q first)))
       (λ some.
       let first = some-wait (d .replies) (s .roomy) (eqb-false (d .replies .length) 0 some) in
       let rest = remembering (withReplies d (behindIt (d .replies))) (oldest (d .replies)) in
       omega (arith, closing-less rest, behind-less (d .replies) first)))
 
-  -- And none is opened by a read.
-  pub read-opens-none : w .dock .handover ≡ false → next w Read .dock .handover ≡ false
-  unfolding d next readOf read replyTaken keyByteTaken remembering
-  read-opens-none shut =
-      let Shut : Taken → Type 0 = λ (t : Taken). t .dock .handover ≡ false in
-      let q = d .keys .queue in
-      picked Shut (inRange d) _ _
-      (picked Shut (eqb (d .replies .length) 0) _ _
-      (picked Shut (eqb (q .length) 0) _ (keyByteTaken d)
-      (closing-shut d shut)
-      (closing-shut (remembering (withKeys d (withQueue (d .keys) (behindIt q))) (oldest q)) shut))
-      (closing-shut (remembering (withReplies d (behindIt (d .replies))) (oldest (d .replies))) shut))
-      shut
+  -- and where nothing does, it changes nothing.
+  pub read-of-quiet : quiet (w .dock) ≡ true → next w Read .dock ≡ w .dock
+  unfolding d next readOf read closing
+  read-of-quiet e =
+      let none = left-of-both (eqb (d .replies .length) 0) (eqb (d .keys .queue .length) 0) e in
+      let empty = right-of-both (eqb (d .replies .length) 0) (eqb (d .keys .queue .length) 0) e in
+      rw (s .sound .range, none, empty, quiet-shut d (w .scans) (s .sound .settled) e)
 
-stays-shut : (n : ℕ) (w : World) → w .dock .handover ≡ false → afterCalls w (replicate n Read) .dock .handover ≡ false
+stays-quiet : (n : ℕ) (w : World) → Steady w → quiet (w .dock) ≡ true → quiet (afterCalls w (replicate n Read) .dock) ≡ true
 unfolding afterCalls
-stays-shut zero w shut = shut
-stays-shut (suc n) w shut = stays-shut n (next w Read) (read-opens-none w shut)
+stays-quiet zero w s e = e
+stays-quiet (suc n) w s e = stays-quiet n (next w Read) (next-steady w Read s) (rw (read-of-quiet w s e) e)
 
--- As many reads as there is to read end it.
-reads-end : (n : ℕ) (w : World) → Steady w → stillToRead (w .dock) ≤ n → afterCalls w (replicate n Read) .dock .handover ≡ false
+-- As many reads as there is to read leave nothing waiting.
+reads-all : (n : ℕ) (w : World) → Steady w → stillToRead (w .dock) ≤ n → quiet (afterCalls w (replicate n Read) .dock) ≡ true
 unfolding afterCalls
-reads-end zero w s none = go (w .dock .handover) refl
+reads-all zero w s none =
+    let replies = eq-eqb (w .dock .replies .length) 0 (omega (arith, replies-counted w s)) in
+    let keys = eq-eqb (w .dock .keys .queue .length) 0 (omega (arith, keys-counted w (s .sound))) in
+    rw (replies, keys)
+reads-all (suc n) w s most = go (quiet (w .dock)) refl (reads-all n (next w Read) (next-steady w Read s))
   where
-    go : (b : Bool) → w .dock .handover ≡ b → b ≡ false
-    go false shut = refl
-    go true opened = absurd (omega (arith, s .sound .settled .waits opened))
-reads-end (suc n) w s most = go (w .dock .handover) refl (reads-end n (next w Read) (next-steady w Read s))
-  where
-    go : (b : Bool) → w .dock .handover ≡ b
-        → (stillToRead (next w Read .dock) ≤ n → afterCalls (next w Read) (replicate n Read) .dock .handover ≡ false)
-        → afterCalls (next w Read) (replicate n Read) .dock .handover ≡ false
-    go false shut later = stays-shut n (next w Read) (read-opens-none w shut)
-    go true opened later = later (omega (arith, read-brings-on w s opened))
+    go : (b : Bool) → quiet (w .dock) ≡ b
+        → (stillToRead (next w Read .dock) ≤ n → quiet (afterCalls (next w Read) (replicate n Read) .dock) ≡ true)
+        → quiet (afterCalls (next w Read) (replicate n Read) .dock) ≡ true
+    go true e later = stays-quiet (suc n) w s e
+    go false e later = later (omega (arith, read-brings-on w s e))
 
 -- 968: 16 replies, 16 key bytes, and nine for each of 104 keys.
+pub enough-reads : (w : World) → Steady w → (n : ℕ) → 968 ≤ n → quiet (afterCalls w (replicate n Read) .dock) ≡ true
+enough-reads w s n enough = reads-all n w s (omega (arith, keys-few w (s .sound), replies-few w s, held-most 104 (w .dock .keys .held)))
+
+-- After any calls,
+pub reads-quieten : (calls : List Call) (n : ℕ) → 968 ≤ n → quiet (afterCalls (afterCalls woken calls) (replicate n Read) .dock) ≡ true
+reads-quieten calls n enough = enough-reads (afterCalls woken calls) (reached-steady calls) n enough
+
+-- so that no handover is left open.
 pub handover-ends : (calls : List Call) (n : ℕ) → 968 ≤ n → afterCalls (afterCalls woken calls) (replicate n Read) .dock .handover ≡ false
 handover-ends calls n enough =
-    let w = afterCalls woken calls in
-    let s = reached-steady calls in
-    reads-end n w s (omega (arith, keys-few w (s .sound), replies-few w s, held-most 104 (w .dock .keys .held)))
+    let end = afterCalls (afterCalls woken calls) (replicate n Read) in
+    let sound = any-sound (replicate n Read) (afterCalls woken calls) (reached-steady calls .sound) in
+    quiet-shut (end .dock) (end .scans) (sound .settled) (reads-quieten calls n enough)

@@ -9,6 +9,7 @@ pub mod ThirdDemand
 pub mod Bounds
 pub mod Giving
 pub mod Ending
+pub mod AfterReads
 pub mod Queuing
 pub mod Queue
 pub mod Clearing

@@ -23,7 +23,6 @@ use Rattle.history.specs.Scans.{saysHeld}
 use Rattle.history.proofs.Counters.{counters-agree}
 use Rattle.history.proofs.Held.{says-held-at, says-held-nowhere, found-at, absent-at}
 use Rattle.maps.specs.Maps.{isIn}
-use Rattle.queue.specs.Queues.{waiting}
 use Rattle.record.specs.declared.Dock.{Dock}
 use Rattle.runs.specs.Calls.{Call}
 use Rattle.runs.specs.Worlds.{World, woken, afterCalls, scansSay}
@@ -31,23 +30,10 @@ use Rattle.runs.specs.Runs.{mayBegin, beginning, undisturbed}
 use Rattle.telling.specs.Agreeing.{Agrees}
 use Rattle.telling.proofs.Told.{told-empty, empty-told}
 use Rattle.terminal.specs.Terminals.{Terminal, terminal, begun, isDown}
-use Rattle.agreement.proofs.Ready.{IsReady, Settled, never}
-use Rattle.agreement.proofs.Following.{Follows, none-wait}
+use Rattle.agreement.proofs.Ready.{IsReady, never}
+use Rattle.agreement.proofs.Following.{Follows}
 use Rattle.agreement.proofs.AnyCalls.{Sound, woken-sound, any-sound, any-follows}
-
--- Nothing waits in the queue of a quiet dock,
-quiet-empty : (d : Dock) → quiet d ≡ true → waiting (d .keys .queue) ≡ []
-quiet-empty d e =
-    let n = d .keys .queue .length in
-    none-wait (d .keys .queue) (eqb-true n 0 (right-of-both (eqb (d .replies .length) 0) (eqb n 0) e))
-
--- and no handover is open.
-quiet-shut : (d : Dock) (scans : List (List ℕ)) → Settled d scans → quiet d ≡ true → d .handover ≡ false
-quiet-shut d scans s e = go (d .handover) refl
-  where
-    go : (b : Bool) → d .handover ≡ b → b ≡ false
-    go false h = refl
-    go true h = let many = s .waits h in let none = ap length (quiet-empty d e) in absurd (omega arith)
+use Rattle.agreement.proofs.Ending.{quiet-empty, quiet-shut}
 
 -- Flags of which none is over 0 are zeros.
 zeros : (l : List ℕ) → allUpTo 0 l ≡ true → l ≡ replicate (length l) 0
