@@ -1,6 +1,6 @@
 -- A key is found only in its own code: bytes that belong to no sequence give no key, whatever the state. Assumes nothing.
 use mathlib.Core.Path.{_≡_, refl, sym, ap, subst}
-use mathlib.Core.Bool.{Bool, true, false}
+use mathlib.Core.Bool.{Bool, true, false, not}
 use mathlib.Core.Logic.{_⊎_, inl, inr}
 use mathlib.Core.List.{List, [], _∷_, _++_}
 use Prim.Native.Nat.{ℕ, zero, suc, _<_, _≤_}
@@ -21,17 +21,17 @@ use Rattle.reader.specs.Reader.{readByte, inSet1, inSet2, inSet3, heard}
 use Rattle.roundtrip.specs.OwnCode.{GoesDown, ComesUp}
 use Rattle.roundtrip.proofs.Lists.{same, same-is-equal}
 
--- A number and a list that pass these tests are a key and its code.
-isCode : ℕ → List ℕ → List ℕ → List ℕ → Bool
-isCode key bytes plain other = both (between 1 104 key) (either (same bytes plain) (same bytes other))
+-- A number and a list that pass these tests are a key and its code in a set.
+isCode : ℕ → ℕ → List ℕ → List ℕ → List ℕ → Bool
+isCode set key bytes plain other = both (between 1 104 key) (either (same bytes plain) (both (not (eqb set 3)) (same bytes other)))
 
 -- What an answer may say of all the bytes read so far.
 right : ℕ → List ℕ → ℕ → Event → Bool
 right set bytes next More = same bytes (seen next)
 right set bytes next (Pressed key) =
-    both (eqb next 0) (isCode key bytes (makeOf (codeOf set key Plain)) (makeOf (codeOf set key Other)))
+    both (eqb next 0) (isCode set key bytes (makeOf (codeOf set key Plain)) (makeOf (codeOf set key Other)))
 right set bytes next (Released key) =
-    both (eqb next 0) (isCode key bytes (breakOf set (codeOf set key Plain)) (breakOf set (codeOf set key Other)))
+    both (eqb next 0) (isCode set key bytes (breakOf set (codeOf set key Plain)) (breakOf set (codeOf set key Other)))
 right set bytes next PauseStruck = eqb next 0
 right set bytes next Wrapping = eqb next 0
 right set bytes next Overrun = eqb next 0
@@ -73,21 +73,28 @@ at set state byte low high s b = each set low high
     each (suc (suc (suc zero))) l h = from 3 in-set-3
     each (suc (suc (suc (suc n)))) l h = absurd (omega arith)
 
-code-of : (key : ℕ) (bytes plain other : List ℕ) → T (isCode key bytes plain other)
-    → (1 ≤ key) × (key ≤ 104) × ((bytes ≡ plain) ⊎ (bytes ≡ other))
+code-of : (set key : ℕ) (bytes plain other : List ℕ) → T (isCode set key bytes plain other)
+    → (1 ≤ key) × (key ≤ 104) × ((bytes ≡ plain) ⊎ ((set ≡ 3 → ⊥) × (bytes ≡ other)))
 unfolding isCode
-code-of key bytes plain other t = (
+code-of set key bytes plain other t = (
   leb→le 1 key (both-left (leb 1 key) (leb key 104) range),
   leb→le key 104 (both-right (leb 1 key) (leb key 104) range),
-  go (same bytes plain) refl (both-right (between 1 104 key) (either (same bytes plain) (same bytes other)) t),
+  go (same bytes plain) refl (both-right (between 1 104 key) (either (same bytes plain) byOther) t),
 )
   where
-    range : T (between 1 104 key)
-    range = both-left (between 1 104 key) (either (same bytes plain) (same bytes other)) t
+    byOther : Bool
+    byOther = both (not (eqb set 3)) (same bytes other)
 
-    go : (b : Bool) → same bytes plain ≡ b → T (either b (same bytes other)) → (bytes ≡ plain) ⊎ (bytes ≡ other)
+    range : T (between 1 104 key)
+    range = both-left (between 1 104 key) (either (same bytes plain) byOther) t
+
+    go : (b : Bool) → same bytes plain ≡ b → T (either b byOther) → (bytes ≡ plain) ⊎ ((set ≡ 3 → ⊥) × (bytes ≡ other))
     go true e h = inl (same-is-equal bytes plain (rw e tt))
-    go false e h = inr (same-is-equal bytes other h)
+    go false e h =
+        inr (
+          λ third. subst (λ (n : ℕ). T (not (eqb n 3))) third (both-left (not (eqb set 3)) (same bytes other) h),
+          same-is-equal bytes other (both-right (not (eqb set 3)) (same bytes other) h),
+        )
 
 module _ (set state byte : ℕ) (low : 1 ≤ set) (high : set ≤ 3) (s : state ≤ 14) (b : byte < 256) where
   told : (event : Event) → readByte set state byte .event ≡ event → T (right set (seen state ++ byte ∷ []) (readByte set state byte .state) event)
@@ -103,7 +110,7 @@ module _ (set state byte : ℕ) (low : 1 ≤ set) (high : set ≤ 3) (s : state 
   pub pressed-by-its-code : (key : ℕ) → readByte set state byte .event ≡ Pressed key → GoesDown set key (seen state ++ byte ∷ [])
   unfolding right
   pressed-by-its-code key e =
-      let t = code-of key (seen state ++ byte ∷ []) (makeOf (codeOf set key Plain)) (makeOf (codeOf set key Other))
+      let t = code-of set key (seen state ++ byte ∷ []) (makeOf (codeOf set key Plain)) (makeOf (codeOf set key Other))
       (both-right (eqb (readByte set state byte .state) 0) _ (told (Pressed key) e)) in
       record { low = t .0; high = t .1; code = t .2 }
 
@@ -111,7 +118,7 @@ module _ (set state byte : ℕ) (low : 1 ≤ set) (high : set ≤ 3) (s : state 
   pub released-by-its-code : (key : ℕ) → readByte set state byte .event ≡ Released key → ComesUp set key (seen state ++ byte ∷ [])
   unfolding right
   released-by-its-code key e =
-      let t = code-of key (seen state ++ byte ∷ []) (breakOf set (codeOf set key Plain)) (breakOf set (codeOf set key Other))
+      let t = code-of set key (seen state ++ byte ∷ []) (breakOf set (codeOf set key Plain)) (breakOf set (codeOf set key Other))
       (both-right (eqb (readByte set state byte .state) 0) _ (told (Released key) e)) in
       record { low = t .0; high = t .1; code = t .2 }
 

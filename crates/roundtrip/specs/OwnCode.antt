@@ -6,14 +6,15 @@ use Prim.Native.Nat.{ℕ, _≤_}
 use Rattle.codes.specs.declared.Form.the-variants.{Plain, Other}
 use Rattle.codes.specs.Codes.{makeOf, breakOf, codeOf}
 
--- These bytes are what a key sends in a set when it goes down, wrapping apart: its code, or that of its other form.
+-- These bytes are what a key sends in a set when it goes down, wrapping apart: its code, or that of its other form. Set 3 has no other
+-- form: what would be the code of one there is that of another key.
 pub record GoesDown (set key : ℕ) (bytes : List ℕ) : Type 0 where
   pub low : 1 ≤ key
   pub high : key ≤ 104
-  pub code : (bytes ≡ makeOf (codeOf set key Plain)) ⊎ (bytes ≡ makeOf (codeOf set key Other))
+  pub code : (bytes ≡ makeOf (codeOf set key Plain)) ⊎ ((set ≡ 3 → ⊥) × (bytes ≡ makeOf (codeOf set key Other)))
 
 -- The same when it comes up.
 pub record ComesUp (set key : ℕ) (bytes : List ℕ) : Type 0 where
   pub low : 1 ≤ key
   pub high : key ≤ 104
-  pub code : (bytes ≡ breakOf set (codeOf set key Plain)) ⊎ (bytes ≡ breakOf set (codeOf set key Other))
+  pub code : (bytes ≡ breakOf set (codeOf set key Plain)) ⊎ ((set ≡ 3 → ⊥) × (bytes ≡ breakOf set (codeOf set key Other)))
