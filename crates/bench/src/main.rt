@@ -4,6 +4,7 @@ use libc::STDIN_FILENO;
 use libc::STDOUT_FILENO;
 use lines::Printed;
 use record::Dock;
+use record::Rest;
 ghost use mathlib.Core.Path.{_≡_};
 ghost use Prim.Native.Nat.{_≤_, _+_};
 ghost use lib.ListN.{length};
@@ -11,6 +12,13 @@ ghost use lib.ListN.{length};
 // What is left of a text after its whole lines were run: the dock, the characters used, and the characters to be printed.
 struct Ran {
     dock: Dock,
+    used: usize,
+    written: usize,
+}
+
+// The same in place: the arrays of the record were lent.
+struct Walk {
+    rest: Rest,
     used: usize,
     written: usize,
 }
@@ -45,27 +53,67 @@ fn put(out: &mut [u8], at: usize, printed: Printed) -> usize
     }
 }
 
-// Runs the whole lines of a text. Each takes at least its newline and prints at most four characters, so the output has room.
-fn run(d: Dock, text: &[u8], out: &mut [u8]) -> Ran
-    requires { ⌜ (length (now text) ≤ 16384) × (length (now out) ≡ 65536) ⌝ }
-    ensures { λ r. ⌜ (r .used ≤ length (now (text .entry))) × (r .written ≤ 65536) ⌝ }
+// Runs the whole lines of a text in place. Each takes at least its newline and prints at most four characters, so the output has room.
+fn run_in_place(
+    map: &mut [u8; 144],
+    closed: &mut [u8; 18],
+    counts: &mut [u8; 144],
+    held: &mut [u8; 144],
+    types: &mut [u8; 105],
+    r: Rest,
+    text: &[u8],
+    out: &mut [u8],
+) -> Walk
+    requires { ⌜ (length (now text) ≤ 16384) × (length (now out) ≡ 65536) × (length (now map) ≡ 144) × (length (now closed) ≡ 18) × (length (now counts) ≡ 144) ⌝ }
+    ensures { λ w. ⌜ (w .used ≤ length (now (text .entry))) × (w .written ≤ 65536) ⌝ }
 {
-    let mut dock = d;
+    let mut rest = r;
     let mut at: usize = 0;
     let mut written: usize = 0;
     let mut end = text::kinds::end_of(text, 0);
     while end < text.len() {
-        let r = lines::step(dock, &text[at..end]);
-        let printed = r.printed;
-        dock = r.dock;
+        let x = lines::step_in_place(map, closed, counts, held, types, rest, &text[at..end]);
+        let printed = x.printed;
+        rest = x.rest;
         written = put(out, written, printed);
         at = end + 1;
         end = text::kinds::end_of(text, at);
     }
-    Ran {
-        dock,
+    Walk {
+        rest,
         used: at,
         written,
+    }
+}
+
+// The same of the whole record, which is taken apart once.
+fn run(d: Dock, text: &[u8], out: &mut [u8]) -> Ran
+    requires { ⌜ (length (now text) ≤ 16384) × (length (now out) ≡ 65536) ⌝ }
+    ensures { λ r. ⌜ (r .used ≤ length (now (text .entry))) × (r .written ≤ 65536) ⌝ }
+{
+    let contacts = d.contacts;
+    let keys = d.keys;
+    let mut map = d.map;
+    let mut closed = contacts.closed;
+    let mut counts = contacts.counts;
+    let mut held = keys.held;
+    let mut types = d.types;
+    let r = record::apart::rest_of(d);
+    let w = run_in_place(
+        &mut map,
+        &mut closed,
+        &mut counts,
+        &mut held,
+        &mut types,
+        r,
+        text,
+        out,
+    );
+    let rest = w.rest;
+    Ran {
+        dock: record::apart::dock_with(map, closed, counts, held, types, rest),
+        used: w.used,
+        written: w.written,
     }
 }
 

@@ -76,15 +76,12 @@ module _ (f : ℕ → ℕ) (h : (i : ℕ) → f i < 2) where
       let row : f n * 2 ^ n ≤ 1 * 2 ^ n = mul-le-mul-right (2 ^ n) (omega (arith, h n)) in
       omega (arith, packed-small n, pow-suc 2 n)
 
-  -- One more row: it fits, and no bit is shifted out of the byte.
-  module _ (r s v : ℕ) (b : r < 8) (i : s ≡ packedTo r f) (e : v ≡ f r) where
-    fits : packedTo r f + f r * 2 ^ r < 256
+  -- One more row: it fits.
+  module _ (r s : ℕ) (b : r < 8) (i : s ≡ packedTo r f) where
+    pub packed-room : s + f r * 2 ^ r < 256
     unfolding packedTo
-    fits = omega (arith, packed-small (suc r), pow-le-pow-right {n = 2} (omega arith) {i = suc r} {j = 8} (omega arith))
+    packed-room = rw i (omega (arith, packed-small (suc r), pow-le-pow-right {n = 2} (omega arith) {i = suc r} {j = 8} (omega arith)))
 
-    pub packed-room : s + v * 2 ^ r % 256 < 256
-    packed-room = rw (i, e) (omega (arith, fits))
-
-    pub packed-more : s + v * 2 ^ r % 256 ≡ packedTo (r + 1) f
+    pub packed-more : s + f r * 2 ^ r ≡ packedTo (r + 1) f
     unfolding packedTo
-    packed-more = rw (i, e, add-one) (omega (arith, fits))
+    packed-more = rw (i, add-one)

@@ -21,10 +21,6 @@ use Rattle.contacts.proofs.Bytes.{packed-rows, packed-same}
 use Rattle.contacts.proofs.Renewals.{renewed-later, renewed-next, renewed-join, renewed-all}
 use Rattle.contacts.proofs.Sameness.{same-is}
 
--- Contacts by their two parts.
-abbrev pub contacts : List ℕ → List ℕ → Contacts
-contacts closed counts = record { closed = closed; counts = counts }
-
 -- A contact that is seen as it counts.
 same-count : (seen closed count : ℕ) → seen ≡ closed → 0 ≡ nextCount seen closed count
 same-count seen closed count e = rw (eq-eqb seen closed e)

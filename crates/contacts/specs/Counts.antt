@@ -10,6 +10,10 @@ use Rattle.basics.specs.Lists.{mapFrom, allUpTo}
 use Rattle.contacts.specs.declared.Contacts.{Contacts}
 use Rattle.contacts.specs.Scans.{rowOf, contact, same}
 
+-- Contacts by their two parts.
+abbrev pub contacts : List ℕ → List ℕ → Contacts
+contacts closed counts = record { closed = closed; counts = counts }
+
 -- A contact that counts as `closed` and is `seen`, each 1 or 0, after `count` scans in a row that showed it otherwise:
 -- the third such scan turns it, and any other scan ends the row. Its count,
 abbrev pub nextCount : ℕ → ℕ → ℕ → ℕ

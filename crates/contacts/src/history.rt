@@ -1,16 +1,15 @@
 // Contact history: a contact turns at the third counted scan in a row that shows it otherwise.
-use crate::Contacts;
 ghost use mathlib.Core.Path.{_≡_};
 ghost use Prim.Native.Nat.{_*_, _<_};
 ghost use lib.ListN.{length};
 ghost use Rattle.basics.specs.Lists.{allUpTo};
 ghost use Rattle.contacts.specs.Scans.{same};
-ghost use Rattle.contacts.specs.Counts.{nextCount, nextClosed, renewed, columnCounts, columnClosed, atRest, countedOf};
+ghost use Rattle.contacts.specs.Counts.{contacts, nextCount, nextClosed, renewed, columnCounts, columnClosed, atRest, countedOf};
 
 // So many counted scans in a row against a contact, and the next one turns it.
 const NEARLY: u8 = 2;
 
-// One contact, seen and closed each 1 or 0: its count after this scan,
+// One contact, seen and closed each 0 or its bit: its count after this scan,
 fn next_count(seen: u8, closed: u8, count: u8) -> u8
     ensures { λ r. ⌜ r ≡ nextCount seen closed count ⌝ }
 {
@@ -49,7 +48,8 @@ fn still(counts: &mut [u8; 144], column: usize)
     }
 }
 
-// A column that shows something else, contact by contact: the column as it then counts.
+// A column that shows something else, contact by contact: the column as it then counts. Rows are left at their bits, so that the
+// compiler takes all eight at a time.
 fn stirred(counts: &mut [u8; 144], column: usize, seen: u8, closed: u8) -> u8
     requires { ⌜ column < 18 ⌝ }
     ensures contacts { λ r. ⌜ r ≡ columnClosed column seen closed (now (counts .entry)) ⌝ }
@@ -59,11 +59,12 @@ fn stirred(counts: &mut [u8; 144], column: usize, seen: u8, closed: u8) -> u8
     let mut sum: u8 = 0;
     let mut r: usize = 0;
     while r < 8 {
-        let s = (seen >> r) % 2;
-        let d = (closed >> r) % 2;
+        let bit = 1u8 << r;
+        let s = seen & bit;
+        let d = closed & bit;
         let n = counts[first + r];
         counts[first + r] = next_count(s, d, n);
-        sum += next_closed(s, d, n) << r;
+        sum += next_closed(s, d, n);
         r += 1;
     }
     sum
@@ -102,34 +103,28 @@ fn none_counted(counts: &[u8; 144]) -> bool
 }
 
 // Both: a scan of an idle panel, or of keys that are held.
-pub fn at_rest(k: Contacts, scan: &[u8]) -> bool
-    requires { ⌜ length (now scan) ≡ 18 ⌝ }
-    ensures { λ r. ⌜ r ≡ atRest k (now (scan .entry)) ⌝ }
+pub fn at_rest(closed: &[u8; 18], counts: &[u8; 144], scan: &[u8]) -> bool
+    requires { ⌜ (length (now closed) ≡ 18) × (length (now counts) ≡ 144) × (length (now scan) ≡ 18) ⌝ }
+    ensures { λ r. ⌜ r ≡ atRest (contacts (now (closed .entry)) (now (counts .entry))) (now (scan .entry)) ⌝ }
 {
-    if !shows(&k.closed, scan) {
+    if !shows(closed, scan) {
         return false;
     }
-    none_counted(&k.counts)
+    none_counted(counts)
 }
 
-// The contacts after a counted scan.
-pub fn counted(k: Contacts, scan: &[u8]) -> Contacts
-    requires { ⌜ length (now scan) ≡ 18 ⌝ }
-    ensures { λ r. ⌜ r ≡ countedOf k (now (scan .entry)) ⌝ }
+// The contacts after a counted scan, in place.
+pub fn count(closed: &mut [u8; 18], counts: &mut [u8; 144], scan: &[u8])
+    requires { ⌜ (length (now closed) ≡ 18) × (length (now counts) ≡ 144) × (length (now scan) ≡ 18) ⌝ }
+    ensures { λ r. ⌜ contacts (now (closed .exit)) (now (counts .exit)) ≡ countedOf (contacts (now (closed .entry)) (now (counts .entry))) (now (scan .entry)) ⌝ }
 {
-    if at_rest(k, scan) {
-        return k;
-    }
-    let mut closed = k.closed;
-    let mut counts = k.counts;
     let mut c: usize = 0;
     while c < 18 {
         if scan[c] == closed[c] {
-            still(&mut counts, c);
+            still(counts, c);
         } else {
-            closed[c] = stirred(&mut counts, c, scan[c], closed[c]);
+            closed[c] = stirred(counts, c, scan[c], closed[c]);
         }
         c += 1;
     }
-    Contacts { closed, counts }
 }

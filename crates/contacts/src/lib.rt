@@ -6,6 +6,6 @@ pub mod history; // history.rt: a contact turns at the third scan in a row that 
 pub struct Contacts {
     // Laid out as a scan: bit r of column c is the contact at position 8 c + r.
     pub closed: [u8; 18],
-    // For each position the counted scans in a row that showed it otherwise: 0 to 2.
+    // For each position the counted scans in a row that showed it otherwise; what is over 2 counts as 2.
     pub counts: [u8; 144],
 }

@@ -9,8 +9,7 @@ use lib.ListN.{length, take, length-take, length-drop}
 use Rattle.basics.specs.Choice.{pick}
 use Rattle.basics.specs.Lists.{allUpTo}
 use Rattle.contacts.specs.Phantom.{isPhantom}
-use Rattle.contacts.specs.Counts.{countedOf}
-use Rattle.contacts.proofs.Pointwise.{counts-up-to-2}
+use Rattle.contacts.specs.Counts.{contacts, countedOf}
 use Rattle.frames.specs.declared.Unpacked.{Unpacked}
 use Rattle.frames.specs.declared.Unpacked.the-variants.{Byte, Broken, TooLarge}
 use Rattle.frames.specs.Frames.{unpackedOf}
@@ -26,15 +25,17 @@ use Rattle.queue.specs.Queues.{waiting, tidy}
 use Rattle.queue.proofs.Meaning.{tidy-short, tidy-queueOf}
 use Rattle.record.specs.declared.Keys.{Keys}
 use Rattle.record.specs.declared.Dock.{Dock}
+use Rattle.record.specs.declared.Rest.{Rest}
+use Rattle.record.specs.Apart.{dockWith}
 use Rattle.record.specs.Parts.{withContacts, withKeys, withReplies, withQueue}
 use Rattle.record.specs.Range.{inRange}
 use Rattle.record.proofs.Ranges.{good-keys-queue, good-keys-with-queue, good-keys-with-repeat}
-use Rattle.record.proofs.Ranges.{in-range, in-range-map, in-range-keys, in-range-types, in-range-mode, in-range-replies, in-range-waiting}
+use Rattle.record.proofs.Ranges.{in-range, in-range-map, in-range-keys, in-range-mode, in-range-replies, in-range-waiting}
 use Rattle.record.proofs.Ranges.{in-range-with-map, in-range-with-contacts, in-range-with-keys, in-range-with-replies}
 use Rattle.record.proofs.Ranges.{in-range-with-handover, in-range-with-given}
 use Rattle.dock.specs.declared.Answered.{Answered}
 use Rattle.dock.specs.declared.Taken.{Taken}
-use Rattle.dock.specs.Closing.{closing}
+use Rattle.dock.specs.Closing.{closing, restInRange}
 use Rattle.dock.specs.Scan.{listening, counting, changed, quiet, repeating, heardScan, scanned, scanOf}
 use Rattle.dock.specs.Swap.{opened, remapped, swapped, swapOf}
 use Rattle.dock.specs.Frame.{tookFrame, frameOf}
@@ -47,6 +48,14 @@ InRange d = inRange d ≡ true
 picked-if : {A : Type 0} (P : A → Type 0) (b : Bool) (x y : A) → (b ≡ true → P x) → P y → P (pick b x y)
 picked-if P true x y p q = p refl
 picked-if P false x y p q = q
+
+-- The rest of a record in its range is in its range by itself.
+pub rest-in-range : (map closed counts held types : List ℕ) (r : Rest) → inRange (dockWith map closed counts held types r) ≡ true
+    → restInRange held types r ≡ true
+unfolding allUpTo
+rest-in-range map closed counts held types r h =
+    let unseen = in-range-with-contacts (dockWith map closed counts held types r) h (contacts [] []) in
+    in-range-with-map (dockWith map [] [] held types r) unseen [] refl
 
 -- The end of every accepted call.
 pub closing-in-range : (d : Dock) → inRange d ≡ true → inRange (closing d) ≡ true
@@ -65,7 +74,7 @@ counting-in-range d scan h =
     let good =
     turns-good (d .mode) (in-range-mode d h) (d .types) (d .map) (in-range-map d h) 144 (d .contacts .closed) (contacts .closed)
     (d .keys) (in-range-keys d h) in
-    in-range-with-keys (withContacts d contacts) (in-range-with-contacts d h contacts (counts-up-to-2 (d .contacts) scan)) _ good
+    in-range-with-keys (withContacts d contacts) (in-range-with-contacts d h contacts) _ good
 
 pub changed-in-range : (d : Dock) (scan : List ℕ) → inRange d ≡ true → inRange (changed d scan) ≡ true
 unfolding changed
@@ -78,17 +87,13 @@ repeating-in-range d h = in-range-with-keys d h _ (repeated-good (d .keys) (d .m
 pub ticking-in-range : (d : Dock) → inRange d ≡ true → inRange (withKeys d (ticked (d .keys))) ≡ true
 ticking-in-range d h = in-range-with-keys d h (ticked (d .keys)) (ticked-good (d .keys) (in-range-keys d h))
 
--- On the way, as the code has it: with the ticked keys, and after a counted scan.
+-- On the way, as the code has it: with the ticked keys, and after the scan's changes.
 module _ (d : Dock) (h : inRange d ≡ true) (keys : Keys) (t : keys ≡ ticked (d .keys)) where
   pub ticked-in-range : inRange (withKeys d keys) ≡ true
   ticked-in-range = rw t (ticking-in-range d h)
 
-  module _ (next : Dock) where
-    pub ticked-leaves-range : next ≡ withKeys d keys → inRange next ≡ true
-    ticked-leaves-range e = rw e ticked-in-range
-
-    pub counted-leaves-range : (scan : List ℕ) (r : Dock) → r ≡ counting (withKeys d keys) scan → next ≡ r → inRange next ≡ true
-    counted-leaves-range scan r i e = rw (e, i) (counting-in-range (withKeys d keys) scan ticked-in-range)
+  pub changed-leaves-range : (scan : List ℕ) (next : Dock) → next ≡ changed (withKeys d keys) scan → inRange next ≡ true
+  changed-leaves-range scan next e = rw e (changed-in-range (withKeys d keys) scan ticked-in-range)
 
 heard-in-range : (d : Dock) (scan : List ℕ) → inRange d ≡ true → inRange (heardScan d scan) ≡ true
 unfolding heardScan
@@ -159,10 +164,10 @@ read-in-range d h =
 
 -- A swap.
 opened-in-range : (d : Dock) (map : List ℕ) → inRange d ≡ true → allUpTo 104 map ≡ true → inRange (opened d map) ≡ true
-unfolding opened allUpTo
+unfolding opened
 opened-in-range d map h g =
     let keys = good-keys-with-repeat (d .keys) (in-range-keys d h) 0 0 (omega arith) (omega arith) in
-    in-range (opened d map) g refl keys (in-range-types d h) (in-range-mode d h) (in-range-replies d h) (in-range-waiting d h)
+    in-range (opened d map) g keys (in-range-mode d h) (in-range-replies d h) (in-range-waiting d h)
 
 pub remapped-in-range : (d : Dock) (map : List ℕ) → inRange d ≡ true → allUpTo 104 map ≡ true → inRange (remapped d map) ≡ true
 unfolding remapped

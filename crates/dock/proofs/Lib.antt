@@ -5,3 +5,4 @@ pub mod Reading
 pub mod Swapping
 pub mod Framing
 pub mod Resting
+pub mod Sizes

@@ -1,5 +1,5 @@
 -- A scan that shows what counts, while no row of scans is under way, changes nothing. Assumes nothing.
-use mathlib.Core.Path.{_≡_, refl, sym, ap, _∙_}
+use mathlib.Core.Path.{_≡_, refl, sym}
 use mathlib.Core.Bool.{Bool, true, false}
 use mathlib.Core.List.{List}
 use Prim.Native.Nat.{ℕ, zero, suc, _<_}
@@ -12,12 +12,11 @@ use Rattle.contacts.specs.Scans.{contact}
 use Rattle.contacts.specs.Counts.{atRest, countedOf}
 use Rattle.contacts.proofs.Passes.{rest-stays}
 use Rattle.keying.specs.Moves.{turned, turnsTo}
-use Rattle.keying.specs.Repeat.{ticked}
 use Rattle.record.specs.declared.Mode.{Mode}
 use Rattle.record.specs.declared.Keys.{Keys}
 use Rattle.record.specs.declared.Dock.{Dock}
 use Rattle.record.specs.Parts.{withContacts, withKeys}
-use Rattle.dock.specs.Scan.{counting, changed, repeating, heardScan}
+use Rattle.dock.specs.Scan.{counting, changed}
 
 -- No contact turned, so no key moves.
 turns-none : (n : ℕ) (m : Mode) (types map was : List ℕ) (k : Keys) → turnsTo n m types map was was k ≡ k
@@ -38,9 +37,6 @@ changed-still d scan e = go (isPhantom scan)
     go true = refl
     go false = by (countedOf (d .contacts) scan) e
 
-pub rest-heard : (d : Dock) (scan : List ℕ) (b : Bool) (r : Dock) → ((i : ℕ) → getD scan i 0 < 256) → b ≡ atRest (d .contacts) scan → b ≡ true
-    → r ≡ repeating (withKeys d (ticked (d .keys))) → r ≡ heardScan d scan
-unfolding heardScan
-rest-heard d scan b r h e t f =
-    f ∙ ap (λ (x : Dock). repeating x)
-    (sym (changed-still (withKeys d (ticked (d .keys))) scan (sym (rest-stays (d .contacts) scan h b e t))))
+pub rest-changes-nothing : (d : Dock) (scan : List ℕ) (b : Bool) → ((i : ℕ) → getD scan i 0 < 256) → b ≡ atRest (d .contacts) scan → b ≡ true
+    → d ≡ changed d scan
+rest-changes-nothing d scan b h e t = sym (changed-still d scan (sym (rest-stays (d .contacts) scan h b e t)))

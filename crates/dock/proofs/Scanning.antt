@@ -46,17 +46,17 @@ pub repeated-when-quiet : (d : Dock) (keys : Keys)
 unfolding repeating
 repeated-when-quiet d keys e = rw (e, none-wait)
 
--- A scan that is listened to, after its changes.
-module _ (d : Dock) (scan : List ℕ) (keys : Keys) (t : keys ≡ ticked (d .keys)) (phantom : Bool) (p : phantom ≡ isPhantom scan) (next : Dock) where
-  pub heard-believed : phantom ≡ false → (r : Dock) → r ≡ counting (withKeys d keys) scan → next ≡ r
-      → next ≡ changed (withKeys d (ticked (d .keys))) scan
+-- What a scan changes: nothing if it is phantom.
+module _ (d : Dock) (scan : List ℕ) (phantom : Bool) (p : phantom ≡ isPhantom scan) where
+  pub phantom-changes-nothing : phantom ≡ true → d ≡ changed d scan
   unfolding changed
-  heard-believed f r e i = rw (← p, f, ← t) (i ∙ e)
+  phantom-changes-nothing y = rw (← p, y)
 
-  pub heard-phantom : phantom ≡ true → next ≡ withKeys d keys → next ≡ changed (withKeys d (ticked (d .keys))) scan
+  pub believed-is-counted : phantom ≡ false → (next : Dock) → next ≡ counting d scan → next ≡ changed d scan
   unfolding changed
-  heard-phantom y i = rw (← p, y, ← t) i
+  believed-is-counted f next e = rw (← p, f) e
 
+-- A scan that is listened to: the repeat follows its changes.
 pub heard-whole : (d : Dock) (scan : List ℕ) (next r : Dock) → next ≡ changed (withKeys d (ticked (d .keys))) scan → r ≡ repeating next
     → r ≡ heardScan d scan
 unfolding heardScan

@@ -1,5 +1,6 @@
 -- The numbers that calls give back (docs/RULES.md, section 9). Assumes nothing.
 use Prim.Native.Nat.{ℕ}
+use mathlib.Core.List.{List}
 use Rattle.record.specs.declared.Dock.{Dock}
 use Rattle.dock.specs.declared.Answer.{Answer}
 use Rattle.dock.specs.declared.Answer.the-variants.{Accepted, ScanLength, MapLength, MapEntry, MapDouble, FrameNumber, BadRecord}
@@ -7,6 +8,9 @@ use Rattle.dock.specs.declared.Answered.{Answered}
 use Rattle.dock.specs.declared.Given.{Given}
 use Rattle.dock.specs.declared.Given.the-variants.{Nothing, Reply, KeyByte, Refused}
 use Rattle.dock.specs.declared.Taken.{Taken}
+use Rattle.dock.specs.declared.Done.{Done}
+use Rattle.dock.specs.declared.Gave.{Gave}
+use Rattle.record.specs.Apart.{dockWith}
 
 -- The number of an answer.
 abbrev pub numberOf : Answer → ℕ
@@ -32,3 +36,10 @@ answered answer dock = record { answer = answer; dock = dock }
 -- What a read gave beside the record.
 abbrev pub taken : Given → Dock → Taken
 taken given dock = record { given = given; dock = dock }
+
+-- The same in place: the arrays as they are, and the rest.
+abbrev pub answeredWith : List ℕ → List ℕ → List ℕ → List ℕ → List ℕ → Done → Answered
+answeredWith map closed counts held types x = answered (x .answer) (dockWith map closed counts held types (x .rest))
+
+abbrev pub takenWith : List ℕ → List ℕ → List ℕ → List ℕ → List ℕ → Gave → Taken
+takenWith map closed counts held types x = taken (x .given) (dockWith map closed counts held types (x .rest))

@@ -1,9 +1,15 @@
 -- The end of every accepted call: an open handover goes on (docs/RULES.md, section 8). Assumes nothing.
+use Prim.Native.Nat.{ℕ}
+use mathlib.Core.Bool.{Bool}
+use mathlib.Core.List.{List, []}
 use Rattle.basics.specs.Choice.{pick}
 use Rattle.keying.specs.declared.Handed.{Handed}
 use Rattle.keying.specs.Handover.{handedOver}
 use Rattle.record.specs.declared.Dock.{Dock}
+use Rattle.record.specs.declared.Rest.{Rest}
+use Rattle.record.specs.Apart.{dockWith}
 use Rattle.record.specs.Parts.{withKeys, withHandover}
+use Rattle.record.specs.Range.{inRange}
 
 -- The record with the keys that were handed over, and the handover as far as it got.
 abbrev pub withHanded : Dock → Handed → Dock
@@ -12,3 +18,7 @@ withHanded d h = withHandover (withKeys d (h .keys)) (h .unfinished)
 -- An open handover goes on; else nothing changes.
 unfoldable pub closing : Dock → Dock
 closing d = pick (d .handover) (withHanded d (handedOver (d .keys) (d .mode) (d .types))) d
+
+-- All that is passed by value is in its range: so it is with no map and no contacts.
+abbrev pub restInRange : List ℕ → List ℕ → Rest → Bool
+restInRange held types r = inRange (dockWith [] [] [] held types r)

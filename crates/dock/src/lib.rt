@@ -1,6 +1,7 @@
 // The dock (docs/RULES.md): one module for each call. Every call takes the record and gives it back beside its answer. A refused
-// call gives it back as it was.
+// call gives it back as it was. Scans and reads can also be had in place: the arrays are lent, and only the rest is passed.
 use record::Dock;
+use record::Rest;
 
 pub mod closing; // closing.rt: how every accepted call ends
 pub mod scan; // scan.rt: a scan of the panel
@@ -30,6 +31,12 @@ pub struct Answered {
     pub dock: Dock,
 }
 
+// The same in place.
+pub struct Done {
+    pub answer: Answer,
+    pub rest: Rest,
+}
+
 // What a read gives.
 pub enum Given {
     Nothing,
@@ -42,4 +49,10 @@ pub enum Given {
 pub struct Taken {
     pub given: Given,
     pub dock: Dock,
+}
+
+// The same in place.
+pub struct Gave {
+    pub given: Given,
+    pub rest: Rest,
 }

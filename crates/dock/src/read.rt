@@ -1,55 +1,89 @@
 // The next byte for the host.
+use crate::Gave;
 use crate::Given;
 use crate::Taken;
-use crate::closing::close;
+use crate::closing::close_in_place;
 use record::Dock;
+use record::Rest;
+use record::apart::dock_with;
+use record::apart::rest_of;
 ghost use mathlib.Core.Path.{_≡_};
 ghost use mathlib.Core.Bool.{true};
-ghost use Prim.Native.Nat.{_≤_};
-ghost use Rattle.record.specs.Range.{inRange};
+ghost use mathlib.Core.List.{List};
+ghost use Prim.Native.Nat.{ℕ, _≤_};
+ghost use lib.ListN.{length};
+ghost use Rattle.record.specs.Apart.{dockWith};
+ghost use Rattle.dock.specs.Answers.{takenWith};
+ghost use Rattle.dock.specs.Closing.{restInRange};
 ghost use Rattle.dock.specs.Read.{remembering, replyTaken, keyByteTaken, readOf};
 
 // A byte was given.
-fn remember(d: Dock, byte: u8) -> Dock
-    ensures { λ r. ⌜ r ≡ remembering d byte ⌝ }
+fn remember(r: Rest, byte: u8) -> Rest
+    ensures { λ e. ⌜ ((map closed counts held types : List ℕ) → dockWith map closed counts held types e ≡ remembering (dockWith map closed counts held types r) byte) ⌝ }
 {
     if byte == 0xfe {
-        return d;
+        return r;
     }
-    let mut e = d;
+    let mut e = r;
     e.given = byte;
     e
 }
 
 // The oldest reply.
-fn take_reply(d: Dock) -> Taken
-    requires { ⌜ (inRange d ≡ true) × (1 ≤ d .replies .length) ⌝ }
-    ensures { λ r. ⌜ r ≡ replyTaken d ⌝ }
+fn take_reply(held: &mut [u8; 144], types: &[u8; 105], r: Rest) -> Gave
+    requires { ⌜ (restInRange (now held) (now types) r ≡ true) × (1 ≤ r .replies .length) ⌝ }
+    ensures { λ x. ⌜ ((map closed counts : List ℕ) → takenWith map closed counts (now (held .exit)) (now (types .entry)) x ≡ replyTaken (dockWith map closed counts (now (held .entry)) (now (types .entry)) r)) ⌝ }
 {
-    let q = d.replies;
+    let q = r.replies;
     let byte = q.bytes[0];
-    let mut e = d;
+    let mut e = r;
     e.replies = queue::popped(q);
-    Taken {
+    Gave {
         given: Given::Reply(byte),
-        dock: close(remember(e, byte)),
+        rest: close_in_place(held, types, remember(e, byte)),
     }
 }
 
 // The oldest key byte.
-fn take_key_byte(d: Dock) -> Taken
-    requires { ⌜ (inRange d ≡ true) × (1 ≤ d .keys .queue .length) ⌝ }
-    ensures { λ r. ⌜ r ≡ keyByteTaken d ⌝ }
+fn take_key_byte(held: &mut [u8; 144], types: &[u8; 105], r: Rest) -> Gave
+    requires { ⌜ (restInRange (now held) (now types) r ≡ true) × (1 ≤ r .outgoing .queue .length) ⌝ }
+    ensures { λ x. ⌜ ((map closed counts : List ℕ) → takenWith map closed counts (now (held .exit)) (now (types .entry)) x ≡ keyByteTaken (dockWith map closed counts (now (held .entry)) (now (types .entry)) r)) ⌝ }
 {
-    let mut k = d.keys;
-    let q = k.queue;
+    let mut o = r.outgoing;
+    let q = o.queue;
     let byte = q.bytes[0];
-    k.queue = queue::popped(q);
-    let mut e = d;
-    e.keys = k;
-    Taken {
+    o.queue = queue::popped(q);
+    let mut e = r;
+    e.outgoing = o;
+    Gave {
         given: Given::KeyByte(byte),
-        dock: close(remember(e, byte)),
+        rest: close_in_place(held, types, remember(e, byte)),
+    }
+}
+
+// The read call in place.
+pub fn read_in_place(map: &[u8; 144], held: &mut [u8; 144], types: &[u8; 105], r: Rest) -> Gave
+    requires { ⌜ length (now map) ≡ 144 ⌝ }
+    ensures { λ x. ⌜ ((closed counts : List ℕ) → takenWith (now (map .entry)) closed counts (now (held .exit)) (now (types .entry)) x ≡ readOf (dockWith (now (map .entry)) closed counts (now (held .entry)) (now (types .entry)) r)) ⌝ }
+{
+    if !record::range::parts_in_range(map, r) {
+        return Gave {
+            given: Given::Refused,
+            rest: r,
+        };
+    }
+    let replies = r.replies;
+    if replies.length != 0 {
+        return take_reply(held, types, r);
+    }
+    let o = r.outgoing;
+    let q = o.queue;
+    if q.length != 0 {
+        return take_key_byte(held, types, r);
+    }
+    Gave {
+        given: Given::Nothing,
+        rest: close_in_place(held, types, r),
     }
 }
 
@@ -57,23 +91,19 @@ fn take_key_byte(d: Dock) -> Taken
 pub fn read(d: Dock) -> Taken
     ensures { λ r. ⌜ r ≡ readOf d ⌝ }
 {
-    if !record::range::in_range(d) {
-        return Taken {
-            given: Given::Refused,
-            dock: d,
-        };
-    }
-    let replies = d.replies;
-    if replies.length != 0 {
-        return take_reply(d);
-    }
-    let k = d.keys;
-    let q = k.queue;
-    if q.length != 0 {
-        return take_key_byte(d);
-    }
+    let contacts = d.contacts;
+    let keys = d.keys;
+    let map = d.map;
+    let closed = contacts.closed;
+    let counts = contacts.counts;
+    let mut held = keys.held;
+    let types = d.types;
+    let r = rest_of(d);
+    let x = read_in_place(&map, &mut held, &types, r);
+    let given = x.given;
+    let rest = x.rest;
     Taken {
-        given: Given::Nothing,
-        dock: close(d),
+        given,
+        dock: dock_with(map, closed, counts, held, types, rest),
     }
 }

@@ -1,118 +1,165 @@
 // A scan of the panel.
 use crate::Answer;
 use crate::Answered;
-use crate::closing::close;
+use crate::Done;
+use crate::closing::close_in_place;
 use record::Dock;
+use record::Rest;
+use record::apart::dock_with;
+use record::apart::rest_of;
 ghost use mathlib.Core.Path.{_≡_};
 ghost use mathlib.Core.Bool.{true};
+ghost use mathlib.Core.List.{List};
+ghost use Prim.Native.Nat.{ℕ};
 ghost use lib.ListN.{length};
-ghost use Rattle.record.specs.Parts.{withKeys};
+ghost use Rattle.record.specs.Apart.{dockWith};
 ghost use Rattle.record.specs.Range.{inRange};
-ghost use Rattle.keying.specs.Repeat.{ticked};
-ghost use Rattle.dock.specs.Scan.{listening, counting, repeating, heardScan, scanOf};
+ghost use Rattle.dock.specs.Answers.{answeredWith};
+ghost use Rattle.dock.specs.Closing.{restInRange};
+ghost use Rattle.dock.specs.Scan.{listening, counting, changed, repeating, heardScan, scanOf};
 
 // Scans are listened to.
-fn is_listening(d: Dock) -> bool
-    ensures { λ r. ⌜ r ≡ listening d ⌝ }
+fn is_listening(r: Rest) -> bool
+    ensures { λ b. ⌜ ((map closed counts held types : List ℕ) → b ≡ listening (dockWith map closed counts held types r)) ⌝ }
 {
-    d.scanning & (d.waiting == 0) & !d.handover
+    r.scanning & (r.waiting == 0) & !r.handover
 }
 
 // A counted scan.
-fn count(d: Dock, scan: &[u8]) -> Dock
-    requires { ⌜ (inRange d ≡ true) × (length (now scan) ≡ 18) ⌝ }
-    ensures { λ r. ⌜ r ≡ counting d (now (scan .entry)) ⌝ }
+fn count(
+    map: &[u8; 144],
+    closed: &mut [u8; 18],
+    counts: &mut [u8; 144],
+    held: &mut [u8; 144],
+    types: &[u8; 105],
+    r: Rest,
+    scan: &[u8],
+) -> Rest
+    requires { ⌜ (inRange (dockWith (now map) (now closed) (now counts) (now held) (now types) r) ≡ true) × (length (now closed) ≡ 18) × (length (now counts) ≡ 144) × (length (now scan) ≡ 18) ⌝ }
+    ensures { λ e. ⌜ dockWith (now (map .entry)) (now (closed .exit)) (now (counts .exit)) (now (held .exit)) (now (types .entry)) e ≡ counting (dockWith (now (map .entry)) (now (closed .entry)) (now (counts .entry)) (now (held .entry)) (now (types .entry)) r) (now (scan .entry)) ⌝ }
 {
-    let before = d.contacts;
-    let after = contacts::history::counted(before, scan);
-    let was = before.closed;
-    let is = after.closed;
-    let k = d.keys;
-    let m = d.mode;
-    let mut e = d;
-    e.contacts = after;
-    let turned = keying::moves::turns(k, m, &d.types, &e.map, was, is);
-    e.keys = turned;
+    let was = *closed;
+    contacts::history::count(closed, counts, scan);
+    let o = r.outgoing;
+    let m = r.mode;
+    let turned = keying::moves::turns(held, o, m, types, map, &was, closed);
+    let mut e = r;
+    e.outgoing = turned;
     e
 }
 
-// A scan that is listened to and may change something.
-fn hear_changes(d: Dock, scan: &[u8]) -> Dock
-    requires { ⌜ (inRange d ≡ true) × (length (now scan) ≡ 18) ⌝ }
-    ensures { λ r. ⌜ r ≡ heardScan d (now (scan .entry)) ⌝ }
+// What a scan changes. One that shows what counts, while no row of scans is under way, changes nothing, phantom or not.
+fn change(
+    map: &[u8; 144],
+    closed: &mut [u8; 18],
+    counts: &mut [u8; 144],
+    held: &mut [u8; 144],
+    types: &[u8; 105],
+    r: Rest,
+    scan: &[u8],
+) -> Rest
+    requires { ⌜ (inRange (dockWith (now map) (now closed) (now counts) (now held) (now types) r) ≡ true) × (length (now closed) ≡ 18) × (length (now counts) ≡ 144) × (length (now scan) ≡ 18) ⌝ }
+    ensures { λ e. ⌜ dockWith (now (map .entry)) (now (closed .exit)) (now (counts .exit)) (now (held .exit)) (now (types .entry)) e ≡ changed (dockWith (now (map .entry)) (now (closed .entry)) (now (counts .entry)) (now (held .entry)) (now (types .entry)) r) (now (scan .entry)) ⌝ }
 {
-    let k = d.keys;
-    let mut e = d;
-    e.keys = keying::repeating::tick(k);
-    if !contacts::phantom::is_phantom(scan) {
-        e = count(e, scan);
+    if contacts::history::at_rest(closed, counts, scan) {
+        return r;
     }
-    repeat(e)
-}
-
-// A scan that shows what counts, while no row of scans is under way, changes nothing, phantom or not: only the repeat is left.
-fn hear_nothing(d: Dock) -> Dock
-    requires { ⌜ inRange d ≡ true ⌝ }
-    ensures { λ r. ⌜ r ≡ repeating (withKeys d (ticked (d .keys))) ⌝ }
-{
-    let k = d.keys;
-    let mut e = d;
-    e.keys = keying::repeating::tick(k);
-    repeat(e)
-}
-
-// A scan that is listened to.
-fn hear(d: Dock, scan: &[u8]) -> Dock
-    requires { ⌜ (inRange d ≡ true) × (length (now scan) ≡ 18) ⌝ }
-    ensures { λ r. ⌜ r ≡ heardScan d (now (scan .entry)) ⌝ }
-{
-    let before = d.contacts;
-    if contacts::history::at_rest(before, scan) {
-        return hear_nothing(d);
+    if contacts::phantom::is_phantom(scan) {
+        return r;
     }
-    hear_changes(d, scan)
+    count(map, closed, counts, held, types, r, scan)
 }
 
 // The repeat, after the scan's changes.
-fn repeat(d: Dock) -> Dock
-    requires { ⌜ inRange d ≡ true ⌝ }
-    ensures { λ r. ⌜ r ≡ repeating d ⌝ }
+fn repeat(held: &[u8; 144], types: &[u8; 105], r: Rest) -> Rest
+    requires { ⌜ restInRange (now held) (now types) r ≡ true ⌝ }
+    ensures { λ e. ⌜ ((map closed counts : List ℕ) → dockWith map closed counts (now (held .entry)) (now (types .entry)) e ≡ repeating (dockWith map closed counts (now (held .entry)) (now (types .entry)) r)) ⌝ }
 {
-    let replies = d.replies;
-    let k = d.keys;
-    let q = k.queue;
+    let replies = r.replies;
+    let o = r.outgoing;
+    let q = o.queue;
     let quiet = replies.length + q.length == 0;
-    let m = d.mode;
-    let repeated = keying::repeating::repeat(k, m, &d.types, quiet);
-    let mut e = d;
-    e.keys = repeated;
+    let m = r.mode;
+    let repeated = keying::repeating::repeat(held, o, m, types, quiet);
+    let mut e = r;
+    e.outgoing = repeated;
     e
+}
+
+// A scan that is listened to: one scan less to the next repeat, then its changes, then the repeat.
+fn hear(
+    map: &[u8; 144],
+    closed: &mut [u8; 18],
+    counts: &mut [u8; 144],
+    held: &mut [u8; 144],
+    types: &[u8; 105],
+    r: Rest,
+    scan: &[u8],
+) -> Rest
+    requires { ⌜ (inRange (dockWith (now map) (now closed) (now counts) (now held) (now types) r) ≡ true) × (length (now closed) ≡ 18) × (length (now counts) ≡ 144) × (length (now scan) ≡ 18) ⌝ }
+    ensures { λ e. ⌜ dockWith (now (map .entry)) (now (closed .exit)) (now (counts .exit)) (now (held .exit)) (now (types .entry)) e ≡ heardScan (dockWith (now (map .entry)) (now (closed .entry)) (now (counts .entry)) (now (held .entry)) (now (types .entry)) r) (now (scan .entry)) ⌝ }
+{
+    let o = r.outgoing;
+    let mut e = r;
+    e.outgoing = keying::repeating::tick(o);
+    let changed = change(map, closed, counts, held, types, e, scan);
+    repeat(held, types, changed)
+}
+
+// The scan call in place.
+pub fn scan_in_place(
+    map: &[u8; 144],
+    closed: &mut [u8; 18],
+    counts: &mut [u8; 144],
+    held: &mut [u8; 144],
+    types: &[u8; 105],
+    r: Rest,
+    scan: &[u8],
+) -> Done
+    requires { ⌜ (length (now map) ≡ 144) × (length (now closed) ≡ 18) × (length (now counts) ≡ 144) ⌝ }
+    ensures { λ x. ⌜ answeredWith (now (map .entry)) (now (closed .exit)) (now (counts .exit)) (now (held .exit)) (now (types .entry)) x ≡ scanOf (dockWith (now (map .entry)) (now (closed .entry)) (now (counts .entry)) (now (held .entry)) (now (types .entry)) r) (now (scan .entry)) ⌝ }
+{
+    if !record::range::parts_in_range(map, r) {
+        return Done {
+            answer: Answer::BadRecord,
+            rest: r,
+        };
+    }
+    if scan.len() != 18 {
+        return Done {
+            answer: Answer::ScanLength,
+            rest: r,
+        };
+    }
+    if !is_listening(r) {
+        return Done {
+            answer: Answer::Accepted,
+            rest: close_in_place(held, types, r),
+        };
+    }
+    Done {
+        answer: Answer::Accepted,
+        rest: hear(map, closed, counts, held, types, r, scan),
+    }
 }
 
 // The scan call.
 pub fn scan(d: Dock, scan: &[u8]) -> Answered
     ensures { λ r. ⌜ r ≡ scanOf d (now (scan .entry)) ⌝ }
 {
-    if !record::range::in_range(d) {
-        return Answered {
-            answer: Answer::BadRecord,
-            dock: d,
-        };
-    }
-    if scan.len() != 18 {
-        return Answered {
-            answer: Answer::ScanLength,
-            dock: d,
-        };
-    }
-    if !is_listening(d) {
-        return Answered {
-            answer: Answer::Accepted,
-            dock: close(d),
-        };
-    }
+    let contacts = d.contacts;
+    let keys = d.keys;
+    let map = d.map;
+    let mut closed = contacts.closed;
+    let mut counts = contacts.counts;
+    let mut held = keys.held;
+    let types = d.types;
+    let r = rest_of(d);
+    let x = scan_in_place(&map, &mut closed, &mut counts, &mut held, &types, r, scan);
+    let answer = x.answer;
+    let rest = x.rest;
     Answered {
-        answer: Answer::Accepted,
-        dock: hear(d, scan),
+        answer,
+        dock: dock_with(map, closed, counts, held, types, rest),
     }
 }

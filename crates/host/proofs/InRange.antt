@@ -8,7 +8,6 @@ use borrow.Author.Tests.{leb-true, le-leb}
 use lib.Dec.{eqb, leb}
 use lib.ListN.{length, set, replicate}
 use Rattle.basics.specs.Choice.{pick, both, either, between}
-use Rattle.basics.specs.Lists.{allUpTo}
 use Rattle.basics.proofs.Flags.{left-of-both, right-of-both}
 use Rattle.lookup.specs.Lookup.{keyWith}
 use Rattle.queue.specs.Queues.{queueOf}
@@ -17,10 +16,10 @@ use Rattle.record.specs.declared.Dock.{Dock}
 use Rattle.record.specs.Power.{defaultTypes, freshWith, powerOn}
 use Rattle.record.specs.Range.{takesValue, goodWaiting, inRange}
 use Rattle.record.proofs.Ranges.{good-mode, good-mode-set, good-mode-rate, good-mode-indicators, good-keys-with-queue, good-keys-with-repeat}
-use Rattle.record.proofs.Ranges.{in-range-map, in-range-keys, in-range-types, in-range-mode, in-range-replies}
+use Rattle.record.proofs.Ranges.{in-range-map, in-range-keys, in-range-mode, in-range-replies}
 use Rattle.record.proofs.Ranges.{in-range-with-keys, in-range-with-types, in-range-with-mode}
 use Rattle.record.proofs.Ranges.{in-range-with-replies, in-range-with-waiting, in-range-with-scanning}
-use Rattle.record.proofs.PowerOn.{fresh-in-range, power-on-in-range}
+use Rattle.record.proofs.PowerOn.{fresh-in-range}
 use Rattle.host.specs.Commands.{replying, cleared, unrepeated, withSet, withRate, withIndicators, withType}
 use Rattle.host.specs.Commands.{readied, enabled, defaulted, disabled, typed, restarted, obeyed, replyTo, commanded}
 use Rattle.host.specs.Commands.{rightValue, valued, given, tookByte}
@@ -33,23 +32,6 @@ picked false x y f g = g
 short : (t : Bool) (x y : List ℕ) → length x ≤ 16 → length y ≤ 16 → length (pick t x y) ≤ 16
 short true x y f g = f
 short false x y f g = g
-
--- Types up to 3: one of them replaced, and all the same.
-replaced : (limit : ℕ) (l : List ℕ) (i x : ℕ) → allUpTo limit l ≡ true → x ≤ limit → allUpTo limit (set l i x) ≡ true
-unfolding allUpTo
-replaced limit [] i x g h = refl
-replaced limit (y ∷ ys) zero x g h = rw (le-leb x limit h) (right-of-both (leb y limit) (allUpTo limit ys) g)
-replaced limit (y ∷ ys) (suc i) x g h =
-    rw (left-of-both (leb y limit) (allUpTo limit ys) g) (replaced limit ys i x (right-of-both (leb y limit) (allUpTo limit ys) g) h)
-
-same : (limit n x : ℕ) → x ≤ limit → allUpTo limit (replicate n x) ≡ true
-unfolding allUpTo
-same limit zero x h = refl
-same limit (suc n) x h = rw (le-leb x limit h) (same limit n x h)
-
-default-types : allUpTo 3 defaultTypes ≡ true
-unfolding powerOn freshWith
-default-types = in-range-types powerOn power-on-in-range
 
 -- The replies to a command are few.
 replies-few : (byte : ℕ) → length (replyTo byte) ≤ 16
@@ -95,8 +77,8 @@ module _ (d : Dock) (h : inRange d ≡ true) where
       let g = in-range-mode d h in
       in-range-with-mode d h _ (good-mode _ (good-mode-set (d .mode) g .0) (good-mode-set (d .mode) g .1) (good-mode-rate (d .mode) g) a)
 
-  type-in-range : (key kind : ℕ) → kind ≤ 3 → inRange (withType key kind d) ≡ true
-  type-in-range key kind a = in-range-with-types d h _ (replaced 3 (d .types) key kind (in-range-types d h) a)
+  type-in-range : (key kind : ℕ) → inRange (withType key kind d) ≡ true
+  type-in-range key kind = in-range-with-types d h _
 
   restarted-in-range : inRange (restarted d) ≡ true
   restarted-in-range = fresh-in-range (d .map) (d .replies) (in-range-map d h) (in-range-replies d h)
@@ -109,10 +91,10 @@ module _ (d : Dock) (h : inRange d ≡ true) where
   defaulted-in-range =
       let still = unrepeated (cleared d) in
       let set = set-in-range still still-in-range 2 (omega arith) (omega arith) in
-      in-range-with-types (withRate 0x2b (withSet 2 still)) (rate-in-range (withSet 2 still) set 0x2b (omega arith)) defaultTypes default-types
+      in-range-with-types (withRate 0x2b (withSet 2 still)) (rate-in-range (withSet 2 still) set 0x2b (omega arith)) defaultTypes
 
-  typed-in-range : (kind : ℕ) → kind ≤ 3 → inRange (typed kind d) ≡ true
-  typed-in-range kind a = in-range-with-types (cleared d) (cleared-in-range d h) (replicate 105 kind) (same 3 105 kind a)
+  typed-in-range : (kind : ℕ) → inRange (typed kind d) ≡ true
+  typed-in-range kind = in-range-with-types (cleared d) (cleared-in-range d h) (replicate 105 kind)
 
   -- A command, row by row.
   obeyed-in-range : (byte : ℕ) → inRange (obeyed byte d) ≡ true
@@ -123,7 +105,7 @@ module _ (d : Dock) (h : inRange d ≡ true) where
       (picked (eqb byte 0xf5) (disabled d) _ (λ e. in-range-with-scanning (defaulted d) defaulted-in-range false)
       (picked (eqb byte 0xf6) (defaulted d) _ (λ e. defaulted-in-range)
       (picked (between 0xf7 0xfa byte) (typed (byte - 0xf7) d) _
-      (λ e. typed-in-range (byte - 0xf7) (omega (arith, leb-true byte 0xfa (right-of-both (leb 0xf7 byte) (leb byte 0xfa) e))))
+      (λ e. typed-in-range (byte - 0xf7))
       (picked (between 0xfb 0xfd byte) (cleared d) _ (λ e. cleared-in-range d h)
       (picked (eqb byte 0xff) (restarted d) d (λ e. restarted-in-range d h) h))))))
 
@@ -145,9 +127,7 @@ module _ (d : Dock) (h : inRange d ≡ true) where
       go key false true c e =
           set-in-range d h value (leb-true 1 value (left-of-both (leb 1 value) (leb value 3) e)) (leb-true value 3 (right-of-both (leb 1 value) (leb value 3) e))
       go key false false true e = rate-in-range d h value (leb-true value 127 e)
-      go key false false false e =
-          let last : leb command 0xfd ≡ true = search (left-of-both, right-of-both) in
-          type-in-range d h key (command - 0xfb) (omega (arith, leb-true command 0xfd last))
+      go key false false false e = type-in-range d h key (command - 0xfb)
 
   given-in-range : (byte : ℕ) → inRange (given byte d) ≡ true
   unfolding given

@@ -29,7 +29,6 @@ use Rattle.keying.proofs.Kept.{picked, handed-keeps, moved-keeps, turne
 
 -- What the range of the keys says of each part.
 pub record Parts (k : Keys) : Type 0 where
-  pub flags : allUpTo 1 (k .held) ≡ true
   pub queue : tidy (k .queue) ≡ true
   pub repeating : k .repeating ≤ 104
   pub clock : k .clock ≤ 240
@@ -39,18 +38,16 @@ unfolding goodKeys
 parts k g =
     let h = leb (k .repeating) 104 in
     let t = leb (k .clock) 240 in
-    let behind = right-of-both (allUpTo 1 (k .held)) (both (tidy (k .queue)) (both h t)) g in
-    let last = right-of-both (tidy (k .queue)) (both h t) behind in
+    let last = right-of-both (tidy (k .queue)) (both h t) g in
     record {
-      flags = left-of-both (allUpTo 1 (k .held)) (both (tidy (k .queue)) (both h t)) g;
-      queue = left-of-both (tidy (k .queue)) (both h t) behind;
+      queue = left-of-both (tidy (k .queue)) (both h t) g;
       repeating = leb-true _ _ (left-of-both h t last);
       clock = leb-true _ _ (right-of-both h t last);
     }
 
 pub whole : (k : Keys) → Parts k → goodKeys k ≡ true
 unfolding goodKeys
-whole k p = rw (p .flags, p .queue, le-leb _ _ (p .repeating), le-leb _ _ (p .clock))
+whole k p = rw (p .queue, le-leb _ _ (p .repeating), le-leb _ _ (p .clock))
 
 pub rate-small : (m : Mode) → goodMode m ≡ true → m .rate ≤ 127
 unfolding goodMode
@@ -58,15 +55,6 @@ rate-small m g =
     let rate = leb (m .rate) 127 in
     let rest = both rate (leb (m .indicators) 7) in
     leb-true _ _ (left-of-both rate (leb (m .indicators) 7) (right-of-both (between 1 3 (m .set)) rest g))
-
--- A flag may be put up or taken down.
-pub up-to-set : (limit : ℕ) (l : List ℕ) (i v : ℕ) → v ≤ limit → allUpTo limit l ≡ true → allUpTo limit (set l i v) ≡ true
-unfolding allUpTo
-up-to-set limit [] i v h e = refl
-up-to-set limit (x ∷ xs) zero v h e = rw (le-leb v limit h) (right-of-both (leb x limit) (allUpTo limit xs) e)
-up-to-set limit (x ∷ xs) (suc i) v h e =
-    rw (left-of-both (leb x limit) (allUpTo limit xs) e)
-    (up-to-set limit xs i v h (right-of-both (leb x limit) (allUpTo limit xs) e))
 
 -- A queue stays one, whatever is queued.
 pub queued-tidy : (q : Queue) (m : Mode) (bytes : List ℕ) → tidy q ≡ true → tidy (queuedOf q m bytes) ≡ true
@@ -101,7 +89,6 @@ module _ (m : Mode) where
   released-good k type key g =
       let p = parts k g in
       whole _ (record {
-        flags = up-to-set 1 (k .held) key 0 (omega arith) (p .flags);
         queue = queued-tidy (k .queue) m (sends k m type key Release) (p .queue);
         repeating = picked (λ (n : ℕ). n ≤ 104) (eqb (k .repeating) key) 0 (k .repeating) (omega arith) (p .repeating);
         clock = picked (λ (n : ℕ). n ≤ 240) (eqb (k .repeating) key) 0 (k .clock) (omega arith) (p .clock);
@@ -117,7 +104,6 @@ module _ (m : Mode) where
         let p = parts k g in
         let may = mayRepeat (m .set) key type in
         whole _ (record {
-          flags = up-to-set 1 (k .held) key 1 (omega arith) (p .flags);
           queue = queued-tidy (k .queue) m (sends k m type key Press) (p .queue);
           repeating = picked (λ (n : ℕ). n ≤ 104) may key 0 l (omega arith);
           clock = picked (λ (n : ℕ). n ≤ 240) may (delayOf (m .rate)) 0 (delay-small (m .rate) (rate-small m h)) (omega arith);
@@ -141,7 +127,7 @@ module _ (m : Mode) where
 pub ticked-good : (k : Keys) → goodKeys k ≡ true → goodKeys (ticked k) ≡ true
 ticked-good k g =
     let p = parts k g in
-    whole _ (record { flags = p .flags; queue = p .queue; repeating = p .repeating; clock = omega arith })
+    whole _ (record { queue = p .queue; repeating = p .repeating; clock = omega arith })
 
 pub repeated-good : (k : Keys) (m : Mode) (types : List ℕ) (quiet : Bool) → goodKeys k ≡ true → goodKeys (repeated k m types quiet) ≡ true
 unfolding repeated
@@ -152,10 +138,9 @@ repeated-good k m types quiet g =
     picked InRange (isDue k) _ _
     (picked InRange (mayRepeat (m .set) (k .repeating) type) _ _
     (whole _ (record {
-      flags = p .flags;
       queue = picked (λ (q : Queue). tidy q ≡ true) quiet _ _ (tidy-queueOf _ (omega (arith, short))) (p .queue);
       repeating = p .repeating;
       clock = omega (arith, interval-small (m .rate));
     }))
-    (whole _ (record { flags = p .flags; queue = p .queue; repeating = omega arith; clock = omega arith })))
+    (whole _ (record { queue = p .queue; repeating = omega arith; clock = omega arith })))
     g

@@ -9,7 +9,9 @@ use Rattle.codes.specs.declared.Action.the-variants.{Release}
 use Rattle.queue.specs.Queues.{waiting, hasRoom}
 use Rattle.record.specs.declared.Mode.{Mode}
 use Rattle.record.specs.declared.Keys.{Keys}
+use Rattle.record.specs.Apart.{keysWith}
 use Rattle.keying.specs.declared.Handed.{Handed}
+use Rattle.keying.specs.declared.Passed.{Passed}
 use Rattle.keying.specs.Sending.{sends}
 use Rattle.keying.specs.Moves.{released}
 
@@ -32,3 +34,7 @@ handedFrom (suc n) key k m types =
 -- All keys, the lowest first.
 abbrev pub handedOver : Keys → Mode → List ℕ → Handed
 handedOver k m types = handedFrom 104 1 k m types
+
+-- What the code gives of it, the flags having changed in place.
+abbrev pub handedWith : List ℕ → Passed → Handed
+handedWith held p = record { keys = keysWith held (p .outgoing); unfinished = p .unfinished }

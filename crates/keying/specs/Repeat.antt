@@ -10,6 +10,7 @@ use Rattle.codes.specs.Codes.{mayRepeat}
 use Rattle.queue.specs.Queues.{queueOf}
 use Rattle.record.specs.declared.Mode.{Mode}
 use Rattle.record.specs.declared.Keys.{Keys}
+use Rattle.record.specs.declared.Outgoing.{Outgoing}
 use Rattle.record.specs.Parts.{withRepeat}
 use Rattle.keying.specs.Sending.{sends}
 
@@ -24,6 +25,10 @@ intervalOf rate = (8 + rate % 8) * 2 ^ (rate / 8 % 4)
 -- One scan less to the next repeat.
 abbrev pub ticked : Keys → Keys
 ticked k = withRepeat k (k .repeating) (k .clock - 1)
+
+-- The same without the flags.
+abbrev pub tickedOn : Outgoing → Outgoing
+tickedOn o = record { queue = o .queue; repeating = o .repeating; clock = o .clock - 1 }
 
 -- A repeat is due.
 abbrev pub isDue : Keys → Bool

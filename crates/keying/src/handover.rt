@@ -1,39 +1,39 @@
 // The keys of a panel that was taken away are released, the lowest first, each as soon as its release fits.
-use crate::Handed;
+use crate::Passed;
 use crate::moves::release_with;
 use crate::sending::bytes_of;
 use codes::Action;
-use record::Keys;
 use record::Mode;
+use record::Outgoing;
 ghost use mathlib.Core.Path.{_≡_};
 ghost use mathlib.Core.Bool.{true};
-ghost use lib.ListN.{length};
+ghost use Rattle.record.specs.Apart.{keysWith};
 ghost use Rattle.record.specs.Range.{goodKeys, goodMode};
-ghost use Rattle.keying.specs.Handover.{handedOver};
+ghost use Rattle.keying.specs.Handover.{handedWith, handedOver};
 
 // A handover goes on as far as the queue has room.
-pub fn hand_over(k: Keys, m: Mode, types: &[u8; 105]) -> Handed
-    requires { ⌜ (goodKeys k ≡ true) × (goodMode m ≡ true) × (length (now types) ≡ 105) ⌝ }
-    ensures { λ r. ⌜ r ≡ handedOver k m (now (types .entry)) ⌝ }
+pub fn hand_over(held: &mut [u8; 144], o: Outgoing, m: Mode, types: &[u8; 105]) -> Passed
+    requires { ⌜ (goodKeys (keysWith (now held) o) ≡ true) × (goodMode m ≡ true) ⌝ }
+    ensures { λ r. ⌜ handedWith (now (held .exit)) r ≡ handedOver (keysWith (now (held .entry)) o) m (now (types .entry)) ⌝ }
 {
-    let mut e = k;
+    let mut e = o;
     let mut key: u8 = 1;
     while key <= 104 {
-        if e.held[key as usize] != 0 {
-            let s = bytes_of(e, m, types[key as usize], key, Action::Release);
+        if held[key as usize] != 0 {
+            let s = bytes_of(held, m, types[key as usize], key, Action::Release);
             let q = e.queue;
             if !queue::fits(q, s) {
-                return Handed {
-                    keys: e,
+                return Passed {
+                    outgoing: e,
                     unfinished: true,
                 };
             }
-            e = release_with(e, m, key, s);
+            e = release_with(held, e, m, key, s);
         }
         key += 1;
     }
-    Handed {
-        keys: e,
+    Passed {
+        outgoing: e,
         unfinished: false,
     }
 }

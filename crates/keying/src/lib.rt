@@ -1,5 +1,6 @@
 // Keys as the terminal is told of them (docs/RULES.md, sections 5, 6 and 8): pressed, released, repeated and handed over.
 use record::Keys;
+use record::Outgoing;
 
 pub mod sending; // sending.rt: what a key sends now
 pub mod moves; // moves.rt: a key goes down or comes up
@@ -9,5 +10,11 @@ pub mod handover; // handover.rt: the keys of a panel that was taken away
 // The keys after a handover went on, and whether it is still open.
 pub struct Handed {
     pub keys: Keys,
+    pub unfinished: bool,
+}
+
+// The same where the flags of the held keys changed in place.
+pub struct Passed {
+    pub outgoing: Outgoing,
     pub unfinished: bool,
 }

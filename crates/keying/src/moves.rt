@@ -1,29 +1,30 @@
-// A key goes down or comes up.
+// A key goes down or comes up. The flags of the held keys are lent, and change in place.
 use crate::repeating::delay_of;
 use crate::sending::bytes_of;
 use crate::sending::queued;
 use codes::Action;
 use codes::Sequence;
-use record::Keys;
 use record::Mode;
+use record::Outgoing;
 ghost use mathlib.Core.Path.{_≡_};
 ghost use mathlib.Core.Bool.{true};
 ghost use Prim.Native.Nat.{_≤_, _<_};
 ghost use lib.ListN.{length};
 ghost use Rattle.basics.specs.Lists.{allUpTo};
 ghost use Rattle.queue.specs.Queues.{contents};
+ghost use Rattle.record.specs.Apart.{keysWith};
 ghost use Rattle.record.specs.Range.{goodKeys, goodMode};
 ghost use Rattle.keying.specs.Moves.{pressed, releasedWith, released, moved, turnsTo, rowsTo};
 
 // A key is pressed.
-pub fn press(k: Keys, m: Mode, kind: u8, key: u8) -> Keys
-    requires { ⌜ (goodKeys k ≡ true) × (goodMode m ≡ true) × (key < 144) ⌝ }
-    ensures { λ r. ⌜ r ≡ pressed k m kind key ⌝ }
+pub fn press(held: &mut [u8; 144], o: Outgoing, m: Mode, kind: u8, key: u8) -> Outgoing
+    requires { ⌜ (goodKeys (keysWith (now held) o) ≡ true) × (goodMode m ≡ true) × (key < 144) ⌝ }
+    ensures { λ r. ⌜ keysWith (now (held .exit)) r ≡ pressed (keysWith (now (held .entry)) o) m kind key ⌝ }
 {
-    let q = k.queue;
-    let mut e = k;
-    e.queue = queued(q, m, bytes_of(k, m, kind, key, Action::Press));
-    e.held[key as usize] = 1;
+    let q = o.queue;
+    let mut e = o;
+    e.queue = queued(q, m, bytes_of(held, m, kind, key, Action::Press));
+    held[key as usize] = 1;
     if codes::strokes::may_repeat(m.set, key, kind) {
         e.repeating = key;
         e.clock = delay_of(m.rate);
@@ -35,15 +36,15 @@ pub fn press(k: Keys, m: Mode, kind: u8, key: u8) -> Keys
 }
 
 // A key is released, and these bytes say so.
-pub fn release_with(k: Keys, m: Mode, key: u8, s: Sequence) -> Keys
-    requires { ⌜ (goodKeys k ≡ true) × (key < 144) × (s .length ≤ 8) ⌝ }
-    ensures { λ r. ⌜ r ≡ releasedWith k m key (contents s) ⌝ }
+pub fn release_with(held: &mut [u8; 144], o: Outgoing, m: Mode, key: u8, s: Sequence) -> Outgoing
+    requires { ⌜ (goodKeys (keysWith (now held) o) ≡ true) × (key < 144) × (s .length ≤ 8) ⌝ }
+    ensures { λ r. ⌜ keysWith (now (held .exit)) r ≡ releasedWith (keysWith (now (held .entry)) o) m key (contents s) ⌝ }
 {
-    let q = k.queue;
-    let mut e = k;
+    let q = o.queue;
+    let mut e = o;
     e.queue = queued(q, m, s);
-    e.held[key as usize] = 0;
-    if k.repeating == key {
+    held[key as usize] = 0;
+    if o.repeating == key {
         e.repeating = 0;
         e.clock = 0;
     }
@@ -51,40 +52,57 @@ pub fn release_with(k: Keys, m: Mode, key: u8, s: Sequence) -> Keys
 }
 
 // A key is released.
-pub fn release(k: Keys, m: Mode, kind: u8, key: u8) -> Keys
-    requires { ⌜ (goodKeys k ≡ true) × (key < 144) ⌝ }
-    ensures { λ r. ⌜ r ≡ released k m kind key ⌝ }
+pub fn release(held: &mut [u8; 144], o: Outgoing, m: Mode, kind: u8, key: u8) -> Outgoing
+    requires { ⌜ (goodKeys (keysWith (now held) o) ≡ true) × (key < 144) ⌝ }
+    ensures { λ r. ⌜ keysWith (now (held .exit)) r ≡ released (keysWith (now (held .entry)) o) m kind key ⌝ }
 {
-    release_with(k, m, key, bytes_of(k, m, kind, key, Action::Release))
+    let s = bytes_of(held, m, kind, key, Action::Release);
+    release_with(held, o, m, key, s)
 }
 
 // The contact of a key turned, to closed (1) or to open (0).
-fn contact_turned(k: Keys, m: Mode, types: &[u8; 105], key: u8, closed: u8) -> Keys
-    requires { ⌜ (goodKeys k ≡ true) × (goodMode m ≡ true) × (key ≤ 104) × (length (now types) ≡ 105) ⌝ }
-    ensures { λ r. ⌜ r ≡ moved k m (now (types .entry)) key closed ⌝ }
+fn contact_turned(
+    held: &mut [u8; 144],
+    o: Outgoing,
+    m: Mode,
+    types: &[u8; 105],
+    key: u8,
+    closed: u8,
+) -> Outgoing
+    requires { ⌜ (goodKeys (keysWith (now held) o) ≡ true) × (goodMode m ≡ true) × (key ≤ 104) ⌝ }
+    ensures { λ r. ⌜ keysWith (now (held .exit)) r ≡ moved (keysWith (now (held .entry)) o) m (now (types .entry)) key closed ⌝ }
 {
     if key == 0 {
-        return k;
+        return o;
     }
     let kind = types[key as usize];
     if closed == 1 {
-        return press(k, m, kind, key);
+        return press(held, o, m, kind, key);
     }
-    release(k, m, kind, key)
+    release(held, o, m, kind, key)
 }
 
 // The contacts of a column that turned.
-fn column(k: Keys, m: Mode, types: &[u8; 105], map: &[u8; 144], c: usize, was: u8, is: u8) -> Keys
-    requires { ⌜ (goodKeys k ≡ true) × (goodMode m ≡ true) × (c < 18) × (length (now types) ≡ 105) × (length (now map) ≡ 144) × (allUpTo 104 (now map) ≡ true) ⌝ }
-    ensures { λ r. ⌜ r ≡ rowsTo 8 m (now (types .entry)) (now (map .entry)) c was is k ⌝ }
+fn column(
+    held: &mut [u8; 144],
+    o: Outgoing,
+    m: Mode,
+    types: &[u8; 105],
+    map: &[u8; 144],
+    c: usize,
+    was: u8,
+    is: u8,
+) -> Outgoing
+    requires { ⌜ (goodKeys (keysWith (now held) o) ≡ true) × (goodMode m ≡ true) × (c < 18) × (allUpTo 104 (now map) ≡ true) ⌝ }
+    ensures { λ r. ⌜ keysWith (now (held .exit)) r ≡ rowsTo 8 m (now (types .entry)) (now (map .entry)) c was is (keysWith (now (held .entry)) o) ⌝ }
 {
-    let mut e = k;
+    let mut e = o;
     let mut r: usize = 0;
     while r < 8 {
         let before = (was >> r) % 2;
         let after = (is >> r) % 2;
         if before != after {
-            e = contact_turned(e, m, types, map[8 * c + r], after);
+            e = contact_turned(held, e, m, types, map[8 * c + r], after);
         }
         r += 1;
     }
@@ -93,21 +111,22 @@ fn column(k: Keys, m: Mode, types: &[u8; 105], map: &[u8; 144], c: usize, was: u
 
 // All contacts that turned, in the order of their positions.
 pub fn turns(
-    k: Keys,
+    held: &mut [u8; 144],
+    o: Outgoing,
     m: Mode,
     types: &[u8; 105],
     map: &[u8; 144],
-    was: [u8; 18],
-    is: [u8; 18],
-) -> Keys
-    requires { ⌜ (goodKeys k ≡ true) × (goodMode m ≡ true) × (length (now types) ≡ 105) × (length (now map) ≡ 144) × (allUpTo 104 (now map) ≡ true) ⌝ }
-    ensures { λ r. ⌜ r ≡ turnsTo 144 m (now (types .entry)) (now (map .entry)) was is k ⌝ }
+    was: &[u8; 18],
+    is: &[u8; 18],
+) -> Outgoing
+    requires { ⌜ (goodKeys (keysWith (now held) o) ≡ true) × (goodMode m ≡ true) × (allUpTo 104 (now map) ≡ true) ⌝ }
+    ensures { λ r. ⌜ keysWith (now (held .exit)) r ≡ turnsTo 144 m (now (types .entry)) (now (map .entry)) (now (was .entry)) (now (is .entry)) (keysWith (now (held .entry)) o) ⌝ }
 {
-    let mut e = k;
+    let mut e = o;
     let mut c: usize = 0;
     while c < 18 {
         if was[c] != is[c] {
-            e = column(e, m, types, map, c, was[c], is[c]);
+            e = column(held, e, m, types, map, c, was[c], is[c]);
         }
         c += 1;
     }

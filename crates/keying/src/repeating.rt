@@ -1,14 +1,14 @@
 // The key that repeats.
 use crate::sending::bytes_of;
 use codes::Action;
-use record::Keys;
 use record::Mode;
+use record::Outgoing;
 ghost use mathlib.Core.Path.{_≡_};
 ghost use mathlib.Core.Bool.{true};
 ghost use Prim.Native.Nat.{_≤_};
-ghost use lib.ListN.{length};
+ghost use Rattle.record.specs.Apart.{keysWith};
 ghost use Rattle.record.specs.Range.{goodKeys, goodMode};
-ghost use Rattle.keying.specs.Repeat.{delayOf, intervalOf, ticked, repeated};
+ghost use Rattle.keying.specs.Repeat.{delayOf, intervalOf, tickedOn, repeated};
 
 // The scans from a press to its first repeat.
 pub fn delay_of(rate: u8) -> u8
@@ -26,31 +26,31 @@ fn interval_of(rate: u8) -> u8
 }
 
 // One scan less to the next repeat.
-pub fn tick(k: Keys) -> Keys
-    ensures { λ r. ⌜ r ≡ ticked k ⌝ }
+pub fn tick(o: Outgoing) -> Outgoing
+    ensures { λ r. ⌜ r ≡ tickedOn o ⌝ }
 {
-    if k.clock == 0 {
-        return k;
+    if o.clock == 0 {
+        return o;
     }
-    let mut e = k;
-    e.clock = k.clock - 1;
+    let mut e = o;
+    e.clock = o.clock - 1;
     e
 }
 
-// A repeat that is due is sent if nothing waits.
-pub fn repeat(k: Keys, m: Mode, types: &[u8; 105], quiet: bool) -> Keys
-    requires { ⌜ (goodKeys k ≡ true) × (goodMode m ≡ true) × (length (now types) ≡ 105) ⌝ }
-    ensures { λ r. ⌜ r ≡ repeated k m (now (types .entry)) quiet ⌝ }
+// A repeat that is due is sent if nothing waits. No flag changes.
+pub fn repeat(held: &[u8; 144], o: Outgoing, m: Mode, types: &[u8; 105], quiet: bool) -> Outgoing
+    requires { ⌜ (goodKeys (keysWith (now held) o) ≡ true) × (goodMode m ≡ true) ⌝ }
+    ensures { λ r. ⌜ keysWith (now (held .entry)) r ≡ repeated (keysWith (now (held .entry)) o) m (now (types .entry)) quiet ⌝ }
 {
-    let key = k.repeating;
+    let key = o.repeating;
     if key == 0 {
-        return k;
+        return o;
     }
-    if k.clock != 0 {
-        return k;
+    if o.clock != 0 {
+        return o;
     }
     let kind = types[key as usize];
-    let mut e = k;
+    let mut e = o;
     if !codes::strokes::may_repeat(m.set, key, kind) {
         e.repeating = 0;
         return e;
@@ -59,6 +59,6 @@ pub fn repeat(k: Keys, m: Mode, types: &[u8; 105], quiet: bool) -> Keys
     if !quiet {
         return e;
     }
-    e.queue = queue::holding(bytes_of(k, m, kind, key, Action::Repeat));
+    e.queue = queue::holding(bytes_of(held, m, kind, key, Action::Repeat));
     e
 }

@@ -2,37 +2,43 @@
 use codes::Action;
 use codes::Sequence;
 use queue::Queue;
-use record::Keys;
 use record::Mode;
 ghost use mathlib.Core.Path.{_≡_};
 ghost use mathlib.Core.Bool.{true};
 ghost use Prim.Native.Nat.{_≤_};
-ghost use Rattle.basics.specs.Lists.{allUpTo};
 ghost use Rattle.codes.specs.Sequences.{holding};
 ghost use Rattle.keys.specs.Keys.{markOf};
 ghost use Rattle.queue.specs.Queues.{tidy, contents};
-ghost use Rattle.keying.specs.Sending.{modifiersOf, sends, queuedOf};
+ghost use Rattle.keying.specs.Sending.{flagOf, modifiersOf, sendsWith, queuedOf};
+
+// A flag that is up counts 1.
+fn flag(x: u8) -> u8
+    ensures { λ r. ⌜ r ≡ flagOf x ⌝ }
+{
+    if x == 0 {
+        return 0;
+    }
+    1
+}
 
 // The modifier keys among the held ones.
-fn modifiers_of(k: Keys) -> u8
-    requires { ⌜ allUpTo 1 (k .held) ≡ true ⌝ }
-    ensures { λ r. ⌜ r ≡ modifiersOf (k .held) ⌝ }
+fn modifiers_of(held: &[u8; 144]) -> u8
+    ensures { λ r. ⌜ r ≡ modifiersOf (now (held .entry)) ⌝ }
 {
-    k.held[42]
-        + 2 * k.held[53]
-        + 4 * k.held[54]
-        + 8 * k.held[58]
-        + 16 * k.held[55]
-        + 32 * k.held[57]
+    flag(held[42])
+        + 2 * flag(held[53])
+        + 4 * flag(held[54])
+        + 8 * flag(held[58])
+        + 16 * flag(held[55])
+        + 32 * flag(held[57])
 }
 
 // The bytes that an action of a key sends.
-pub fn bytes_of(k: Keys, m: Mode, kind: u8, key: u8, action: Action) -> Sequence
-    requires { ⌜ allUpTo 1 (k .held) ≡ true ⌝ }
-    ensures { λ r. ⌜ r ≡ holding (sends k m kind key action) ⌝ }
+pub fn bytes_of(held: &[u8; 144], m: Mode, kind: u8, key: u8, action: Action) -> Sequence
+    ensures { λ r. ⌜ r ≡ holding (sendsWith (now (held .entry)) m kind key action) ⌝ }
 {
     let lock = m.indicators / 2 % 2 == 1;
-    codes::strokes::sequence_of(m.set, key, action, kind, modifiers_of(k), lock)
+    codes::strokes::sequence_of(m.set, key, action, kind, modifiers_of(held), lock)
 }
 
 // The overrun mark of a set.

@@ -15,6 +15,7 @@ use Rattle.dock.specs.Scan.{scanOf}
 use Rattle.dock.specs.Swap.{swapOf}
 use Rattle.frames.specs.Frames as frames
 use Rattle.record.specs.declared.Dock.{Dock}
+use Rattle.record.specs.Apart.{dockWith}
 use Rattle.text.specs.declared.Kind.{Kind}
 use Rattle.text.specs.declared.Kind.the-variants.{Read, Frame, Scan, Map, Malformed}
 use Rattle.text.specs.Digits.{bytesFrom, frameIn}
@@ -22,6 +23,7 @@ use Rattle.text.specs.Lines.{kindOf}
 use Rattle.lines.specs.declared.Printed.{Printed}
 use Rattle.lines.specs.declared.Printed.the-variants.{Silence, FrameLine, RefusalLine}
 use Rattle.lines.specs.declared.Stepped.{Stepped}
+use Rattle.lines.specs.declared.Walked.{Walked}
 
 -- An accepted line prints nothing; a refused one prints its number.
 abbrev pub answerPrints : Answer → Printed
@@ -43,6 +45,10 @@ steppedBy r = stepped (r .dock) (answerPrints (r .answer))
 
 abbrev pub steppedRead : Taken → Stepped
 steppedRead r = stepped (r .dock) (readPrints (r .given))
+
+-- The same in place: the arrays as they are, and the rest.
+abbrev pub walkedWith : List ℕ → List ℕ → List ℕ → List ℕ → List ℕ → Walked → Stepped
+walkedWith map closed counts held types x = stepped (dockWith map closed counts held types (x .rest)) (x .printed)
 
 -- What a line of a kind does.
 abbrev pub stepBy : Kind → Dock → List ℕ → Stepped

@@ -2,16 +2,22 @@
 use dock::Answer;
 use dock::Given;
 use record::Dock;
+use record::Rest;
+use record::apart::dock_with;
+use record::apart::rest_of;
 use text::Kind;
 ghost use mathlib.Core.Path.{_≡_};
 ghost use mathlib.Core.Bool.{true};
+ghost use mathlib.Core.List.{List};
+ghost use Prim.Native.Nat.{ℕ};
 ghost use lib.ListN.{length};
 ghost use Rattle.dock.specs.Scan.{scanOf};
 ghost use Rattle.dock.specs.Swap.{swapOf};
 ghost use Rattle.dock.specs.Frame.{frameOf};
 ghost use Rattle.dock.specs.Read.{readOf};
 ghost use Rattle.text.specs.Digits.{allDigits, bytesFrom, frameIn};
-ghost use Rattle.lines.specs.Steps.{answerPrints, readPrints, steppedBy, steppedRead, stepOf};
+ghost use Rattle.record.specs.Apart.{dockWith};
+ghost use Rattle.lines.specs.Steps.{answerPrints, readPrints, steppedBy, steppedRead, walkedWith, stepOf};
 
 // What a line prints.
 pub enum Printed {
@@ -24,6 +30,12 @@ pub enum Printed {
 
 pub struct Stepped {
     pub dock: Dock,
+    pub printed: Printed,
+}
+
+// The same in place: the arrays were lent.
+pub struct Walked {
+    pub rest: Rest,
     pub printed: Printed,
 }
 
@@ -55,59 +67,138 @@ fn read_prints(given: Given) -> Printed
 }
 
 // 36 digits: a scan.
-fn scan_line(d: Dock, line: &[u8]) -> Stepped
-    requires { ⌜ (length (now line) ≡ 36) × (allDigits (now line) ≡ true) ⌝ }
-    ensures { λ r. ⌜ r ≡ steppedBy (scanOf d (bytesFrom (now (line .entry)) 0 18)) ⌝ }
+fn scan_line(
+    map: &[u8; 144],
+    closed: &mut [u8; 18],
+    counts: &mut [u8; 144],
+    held: &mut [u8; 144],
+    types: &[u8; 105],
+    r: Rest,
+    line: &[u8],
+) -> Walked
+    requires { ⌜ (length (now map) ≡ 144) × (length (now closed) ≡ 18) × (length (now counts) ≡ 144) × (length (now line) ≡ 36) × (allDigits (now line) ≡ true) ⌝ }
+    ensures { λ x. ⌜ walkedWith (now (map .entry)) (now (closed .exit)) (now (counts .exit)) (now (held .exit)) (now (types .entry)) x ≡ steppedBy (scanOf (dockWith (now (map .entry)) (now (closed .entry)) (now (counts .entry)) (now (held .entry)) (now (types .entry)) r) (bytesFrom (now (line .entry)) 0 18)) ⌝ }
 {
     let scan = text::digits::scan_in(line);
-    let r = dock::scan::scan(d, &scan);
-    let after = r.dock;
-    let answer = r.answer;
-    Stepped {
-        dock: after,
-        printed: answer_prints(answer),
-    }
-}
-
-// 288 digits: a map to swap to.
-fn map_line(d: Dock, line: &[u8]) -> Stepped
-    requires { ⌜ (length (now line) ≡ 288) × (allDigits (now line) ≡ true) ⌝ }
-    ensures { λ r. ⌜ r ≡ steppedBy (swapOf d (bytesFrom (now (line .entry)) 0 144)) ⌝ }
-{
-    let map = text::digits::map_in(line);
-    let r = dock::swap::swap(d, &map);
-    let after = r.dock;
-    let answer = r.answer;
-    Stepped {
-        dock: after,
-        printed: answer_prints(answer),
-    }
-}
-
-// 3 digits: a host frame.
-fn frame_line(d: Dock, line: &[u8]) -> Stepped
-    requires { ⌜ (length (now line) ≡ 3) × (allDigits (now line) ≡ true) ⌝ }
-    ensures { λ r. ⌜ r ≡ steppedBy (frameOf d (frameIn (now (line .entry)))) ⌝ }
-{
-    let r = dock::frame::frame(d, text::digits::frame_in(line));
-    let after = r.dock;
-    let answer = r.answer;
-    Stepped {
-        dock: after,
+    let x = dock::scan::scan_in_place(map, closed, counts, held, types, r, &scan);
+    let rest = x.rest;
+    let answer = x.answer;
+    Walked {
+        rest,
         printed: answer_prints(answer),
     }
 }
 
 // An empty line: a read.
-fn read_line(d: Dock) -> Stepped
-    ensures { λ r. ⌜ r ≡ steppedRead (readOf d) ⌝ }
+fn read_line(map: &[u8; 144], held: &mut [u8; 144], types: &[u8; 105], r: Rest) -> Walked
+    requires { ⌜ length (now map) ≡ 144 ⌝ }
+    ensures { λ x. ⌜ ((closed counts : List ℕ) → walkedWith (now (map .entry)) closed counts (now (held .exit)) (now (types .entry)) x ≡ steppedRead (readOf (dockWith (now (map .entry)) closed counts (now (held .entry)) (now (types .entry)) r))) ⌝ }
 {
-    let r = dock::read::read(d);
-    let after = r.dock;
-    let given = r.given;
-    Stepped {
-        dock: after,
+    let x = dock::read::read_in_place(map, held, types, r);
+    let rest = x.rest;
+    let given = x.given;
+    Walked {
+        rest,
         printed: read_prints(given),
+    }
+}
+
+// A record laid out in the arrays that are lent, and its rest.
+fn lay_out(
+    map: &mut [u8; 144],
+    closed: &mut [u8; 18],
+    counts: &mut [u8; 144],
+    held: &mut [u8; 144],
+    types: &mut [u8; 105],
+    d: Dock,
+) -> Rest
+    ensures { λ r. ⌜ dockWith (now (map .exit)) (now (closed .exit)) (now (counts .exit)) (now (held .exit)) (now (types .exit)) r ≡ d ⌝ }
+{
+    let contacts = d.contacts;
+    let keys = d.keys;
+    let m = d.map;
+    let c = contacts.closed;
+    let n = contacts.counts;
+    let h = keys.held;
+    let t = d.types;
+    *map = m;
+    *closed = c;
+    *counts = n;
+    *held = h;
+    *types = t;
+    rest_of(d)
+}
+
+// 3 digits: a host frame.
+fn frame_line(
+    map: &mut [u8; 144],
+    closed: &mut [u8; 18],
+    counts: &mut [u8; 144],
+    held: &mut [u8; 144],
+    types: &mut [u8; 105],
+    r: Rest,
+    line: &[u8],
+) -> Walked
+    requires { ⌜ (length (now line) ≡ 3) × (allDigits (now line) ≡ true) ⌝ }
+    ensures { λ x. ⌜ walkedWith (now (map .exit)) (now (closed .exit)) (now (counts .exit)) (now (held .exit)) (now (types .exit)) x ≡ steppedBy (frameOf (dockWith (now (map .entry)) (now (closed .entry)) (now (counts .entry)) (now (held .entry)) (now (types .entry)) r) (frameIn (now (line .entry)))) ⌝ }
+{
+    let d = dock_with(*map, *closed, *counts, *held, *types, r);
+    let x = dock::frame::frame(d, text::digits::frame_in(line));
+    let after = x.dock;
+    let answer = x.answer;
+    Walked {
+        rest: lay_out(map, closed, counts, held, types, after),
+        printed: answer_prints(answer),
+    }
+}
+
+// 288 digits: a map to swap to.
+fn map_line(
+    map: &mut [u8; 144],
+    closed: &mut [u8; 18],
+    counts: &mut [u8; 144],
+    held: &mut [u8; 144],
+    types: &mut [u8; 105],
+    r: Rest,
+    line: &[u8],
+) -> Walked
+    requires { ⌜ (length (now line) ≡ 288) × (allDigits (now line) ≡ true) ⌝ }
+    ensures { λ x. ⌜ walkedWith (now (map .exit)) (now (closed .exit)) (now (counts .exit)) (now (held .exit)) (now (types .exit)) x ≡ steppedBy (swapOf (dockWith (now (map .entry)) (now (closed .entry)) (now (counts .entry)) (now (held .entry)) (now (types .entry)) r) (bytesFrom (now (line .entry)) 0 144)) ⌝ }
+{
+    let new = text::digits::map_in(line);
+    let d = dock_with(*map, *closed, *counts, *held, *types, r);
+    let x = dock::swap::swap(d, &new);
+    let after = x.dock;
+    let answer = x.answer;
+    Walked {
+        rest: lay_out(map, closed, counts, held, types, after),
+        printed: answer_prints(answer),
+    }
+}
+
+// One line, without its newline, in place: the arrays are lent, and only the rest is passed.
+pub fn step_in_place(
+    map: &mut [u8; 144],
+    closed: &mut [u8; 18],
+    counts: &mut [u8; 144],
+    held: &mut [u8; 144],
+    types: &mut [u8; 105],
+    r: Rest,
+    line: &[u8],
+) -> Walked
+    requires { ⌜ (length (now map) ≡ 144) × (length (now closed) ≡ 18) × (length (now counts) ≡ 144) ⌝ }
+    ensures { λ x. ⌜ walkedWith (now (map .exit)) (now (closed .exit)) (now (counts .exit)) (now (held .exit)) (now (types .exit)) x ≡ stepOf (dockWith (now (map .entry)) (now (closed .entry)) (now (counts .entry)) (now (held .entry)) (now (types .entry)) r) (now (line .entry)) ⌝ }
+{
+    let kind = text::kinds::kind_of(line);
+    match kind {
+        Kind::Scan => scan_line(map, closed, counts, held, types, r, line),
+        Kind::Read => read_line(map, held, types, r),
+        Kind::Frame => frame_line(map, closed, counts, held, types, r, line),
+        Kind::Map => map_line(map, closed, counts, held, types, r, line),
+        Kind::Malformed => Walked {
+            rest: r,
+            printed: Printed::RefusalLine(8),
+        },
     }
 }
 
@@ -115,15 +206,27 @@ fn read_line(d: Dock) -> Stepped
 pub fn step(d: Dock, line: &[u8]) -> Stepped
     ensures { λ r. ⌜ r ≡ stepOf d (now (line .entry)) ⌝ }
 {
-    let kind = text::kinds::kind_of(line);
-    match kind {
-        Kind::Scan => scan_line(d, line),
-        Kind::Read => read_line(d),
-        Kind::Frame => frame_line(d, line),
-        Kind::Map => map_line(d, line),
-        Kind::Malformed => Stepped {
-            dock: d,
-            printed: Printed::RefusalLine(8),
-        },
+    let contacts = d.contacts;
+    let keys = d.keys;
+    let mut map = d.map;
+    let mut closed = contacts.closed;
+    let mut counts = contacts.counts;
+    let mut held = keys.held;
+    let mut types = d.types;
+    let r = rest_of(d);
+    let x = step_in_place(
+        &mut map,
+        &mut closed,
+        &mut counts,
+        &mut held,
+        &mut types,
+        r,
+        line,
+    );
+    let rest = x.rest;
+    let printed = x.printed;
+    Stepped {
+        dock: dock_with(map, closed, counts, held, types, rest),
+        printed,
     }
 }

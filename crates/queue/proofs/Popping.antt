@@ -9,7 +9,7 @@ use native.Mathlib.Omega.{arith}
 use lib.ListN.{length, take, drop, set, getD, replicate, replicate-append-replicate}
 use Rattle.queue.specs.declared.Queue.{Queue}
 use Rattle.queue.specs.Queues.{waiting, queueOf, tidy}
-use Rattle.queue.proofs.Meaning.{queue, tidy-is, tidy-short, length-waiting}
+use Rattle.queue.proofs.Meaning.{queue, tidy-short, length-waiting, places-queueOf}
 
 -- The first i places have what stood one place behind them, the others what they had.
 unfoldable pub moved : List ℕ → ℕ → List ℕ
@@ -49,19 +49,20 @@ without-oldest (x ∷ l) h k =
     let bytes : l ++ replicate (16 - suc (length l)) 0 ++ 0 ∷ [] ≡ l ++ replicate (16 - length l) 0 = rw (append-assoc, zero-more, zeros) in
     ap₂ queue bytes (omega arith)
 
-module _ (q : Queue) (t : tidy q ≡ true) (places : length (q .bytes) ≡ 16) where
-  pub popped-empty : q .length ≡ 0 → q ≡ queueOf (drop 1 (waiting q))
+module _ (q : Queue) (t : tidy q ≡ true) (places : length (q .bytes) ≡ 16) (clean : Queue) (is : clean ≡ queueOf (waiting q)) where
+  pub popped-empty : q .length ≡ 0 → clean ≡ queueOf (drop 1 (waiting q))
   unfolding waiting
   popped-empty h =
       let none : take (q .length) (q .bytes) ≡ [] = ap (λ (n : ℕ). take n (q .bytes)) h in
-      tidy-is q places t ∙ ap queueOf (none ∙ ap (λ (l : List ℕ). drop 1 l) (sym none))
+      is ∙ ap queueOf (none ∙ ap (λ (l : List ℕ). drop 1 l) (sym none))
 
-  pub popped-by-moving : (b : List ℕ) (i : ℕ) → (q .length ≡ 0 → ⊥) → i ≤ 15 → 15 ≤ i → b ≡ moved (q .bytes) i
+  pub popped-by-moving : (b : List ℕ) (i : ℕ) → (q .length ≡ 0 → ⊥) → i ≤ 15 → 15 ≤ i → b ≡ moved (clean .bytes) i
       → queue (set b 15 0) (q .length - 1) ≡ queueOf (drop 1 (waiting q))
   unfolding queueOf
   popped-by-moving b i some low high e =
       let count : length (waiting q) ≡ q .length = length-waiting q t places in
-      let all : b ≡ moved (q .bytes) 15 = e ∙ ap (λ (n : ℕ). moved (q .bytes) n) (le-antisymm low high) in
-      ap (λ (a : List ℕ). queue a (q .length - 1)) (ap (λ (a : List ℕ). set a 15 0) all ∙ moved-all (q .bytes) 15 places)
-      ∙ ap (λ (x : Queue). queue (drop 1 (x .bytes) ++ 0 ∷ []) (x .length - 1)) (tidy-is q places t)
+      let all : b ≡ moved (clean .bytes) 15 = e ∙ ap (λ (n : ℕ). moved (clean .bytes) n) (le-antisymm low high) in
+      let long : length (clean .bytes) ≡ 16 = ap (λ (x : Queue). length (x .bytes)) is ∙ places-queueOf (waiting q) (omega (arith, tidy-short q t)) in
+      ap (λ (a : List ℕ). queue a (q .length - 1)) (ap (λ (a : List ℕ). set a 15 0) all ∙ moved-all (clean .bytes) 15 long)
+      ∙ ap₂ (λ (x : Queue) (n : ℕ). queue (drop 1 (x .bytes) ++ 0 ∷ []) (n - 1)) is (sym count)
       ∙ without-oldest (waiting q) (omega arith) (omega (arith, tidy-short q t))

@@ -1,11 +1,10 @@
 -- Bytes that wait to be read (docs/RULES.md, section 7). Assumes nothing.
 use Prim.Native.Nat.{ℕ, _+_, _-_}
-use mathlib.Core.Bool.{Bool, true, false}
+use mathlib.Core.Bool.{Bool}
 use mathlib.Core.List.{List, [], _∷_, _++_}
 use lib.Dec.{leb}
-use lib.ListN.{length, take, drop, getD, replicate}
-use Rattle.basics.specs.Choice.{pick, both}
-use Rattle.basics.specs.Lists.{allUpTo}
+use lib.ListN.{length, take, replicate}
+use Rattle.basics.specs.Choice.{pick}
 use Rattle.codes.specs.declared.Sequence.{Sequence}
 use Rattle.queue.specs.declared.Queue.{Queue}
 
@@ -17,9 +16,9 @@ waiting q = take (q .length) (q .bytes)
 unfoldable pub queueOf : List ℕ → Queue
 queueOf bytes = record { bytes = bytes ++ replicate (16 - length bytes) 0; length = length bytes }
 
--- The range of a queue: at most 16 bytes wait, and zeros stand behind them. So its meaning fixes it.
+-- The range of a queue: at most 16 bytes wait. What stands behind them does not matter.
 unfoldable pub tidy : Queue → Bool
-tidy q = both (leb (q .length) 16) (allUpTo 0 (drop (q .length) (q .bytes)))
+tidy q = leb (q .length) 16
 
 -- The bytes of a sequence.
 unfoldable pub contents : Sequence → List ℕ

@@ -7,7 +7,7 @@ ghost use Prim.Native.Nat.{_≤_};
 ghost use lib.ListN.{drop};
 ghost use Rattle.queue.specs.Queues.{waiting, queueOf, tidy, contents, hasRoom, pushedTo};
 
-// The first `length` of `bytes` wait, the oldest in front; zeros stand behind them.
+// The first `length` of `bytes` wait, the oldest in front. What is pushed or popped leaves zeros behind them.
 pub struct Queue {
     pub bytes: [u8; 16],
     pub length: usize,
@@ -23,23 +23,25 @@ pub fn empty() -> Queue
     }
 }
 
-// At most 16 bytes wait, and zeros stand behind them.
+// At most 16 bytes wait.
 pub fn is_tidy(q: Queue) -> bool
     ensures { λ r. ⌜ r ≡ tidy q ⌝ }
 {
-    let length = q.length;
-    if 16 < length {
-        return false;
-    }
-    let mut good = true;
-    let mut i: usize = 0;
+    q.length <= 16
+}
+
+// The same bytes wait, and zeros stand behind them, whatever stood there before.
+fn cleaned(q: Queue) -> Queue
+    requires { ⌜ tidy q ≡ true ⌝ }
+    ensures { λ r. ⌜ r ≡ queueOf (waiting q) ⌝ }
+{
+    let mut e = q;
+    let mut i = q.length;
     while i < 16 {
-        if length <= i && q.bytes[i] != 0 {
-            good = false;
-        }
+        e.bytes[i] = 0;
         i += 1;
     }
-    good
+    e
 }
 
 // A sequence fits.
@@ -57,7 +59,7 @@ pub fn pushed(q: Queue, s: Sequence, mark: u8) -> Queue
 {
     let at = q.length;
     let n = s.length;
-    let mut e = q;
+    let mut e = cleaned(q);
     if 16 - at < n {
         e.bytes[at - 1] = mark;
         return e;
@@ -77,10 +79,10 @@ pub fn popped(q: Queue) -> Queue
     ensures { λ r. ⌜ r ≡ queueOf (drop 1 (waiting q)) ⌝ }
 {
     let n = q.length;
+    let mut e = cleaned(q);
     if n == 0 {
-        return q;
+        return e;
     }
-    let mut e = q;
     let mut i: usize = 0;
     while i < 15 {
         e.bytes[i] = e.bytes[i + 1];

@@ -36,13 +36,9 @@ good-mode m a b c e = rw (le-leb 1 (m .set) a, le-leb (m .set) 3 b, le-leb (m .r
 
 -- The keys.
 module _ (k : Keys) (h : goodKeys k ≡ true) where
-  pub good-keys-held : allUpTo 1 (k .held) ≡ true
-  unfolding goodKeys
-  good-keys-held = search left-of-both
-
   pub good-keys-queue : tidy (k .queue) ≡ true
   unfolding goodKeys
-  good-keys-queue = search (left-of-both, right-of-both)
+  good-keys-queue = search left-of-both
 
   pub good-keys-repeating : k .repeating ≤ 104
   unfolding goodKeys
@@ -59,35 +55,26 @@ module _ (k : Keys) (h : goodKeys k ≡ true) where
 
   pub good-keys-with-repeat : (key clock : ℕ) → key ≤ 104 → clock ≤ 240 → goodKeys (withRepeat k key clock) ≡ true
   unfolding goodKeys
-  good-keys-with-repeat key clock g f = rw (good-keys-held, good-keys-queue, le-leb key 104 g) (le-leb clock 240 f)
+  good-keys-with-repeat key clock g f = rw (good-keys-queue, le-leb key 104 g) (le-leb clock 240 f)
 
-pub good-keys : (k : Keys) → allUpTo 1 (k .held) ≡ true → tidy (k .queue) ≡ true → k .repeating ≤ 104 → k .clock ≤ 240 → goodKeys k ≡ true
+pub good-keys : (k : Keys) → tidy (k .queue) ≡ true → k .repeating ≤ 104 → k .clock ≤ 240 → goodKeys k ≡ true
 unfolding goodKeys
-good-keys k a b c e = rw (a, b, le-leb (k .repeating) 104 c) (le-leb (k .clock) 240 e)
+good-keys k b c e = rw (b, le-leb (k .repeating) 104 c) (le-leb (k .clock) 240 e)
 
 -- The record.
-pub in-range : (d : Dock) → allUpTo 104 (d .map) ≡ true → allUpTo 2 (d .contacts .counts) ≡ true → goodKeys (d .keys) ≡ true
-    → allUpTo 3 (d .types) ≡ true → goodMode (d .mode) ≡ true → tidy (d .replies) ≡ true → goodWaiting (d .waiting) ≡ true
-    → inRange d ≡ true
+pub in-range : (d : Dock) → allUpTo 104 (d .map) ≡ true → goodKeys (d .keys) ≡ true → goodMode (d .mode) ≡ true → tidy (d .replies) ≡ true
+    → goodWaiting (d .waiting) ≡ true → inRange d ≡ true
 unfolding inRange
-in-range d map counts keys types mode replies waiting = rw (map, counts, keys, types, mode, replies) waiting
+in-range d map keys mode replies waiting = rw (map, keys, mode, replies) waiting
 
 module _ (d : Dock) (h : inRange d ≡ true) where
   pub in-range-map : allUpTo 104 (d .map) ≡ true
   unfolding inRange
   in-range-map = search left-of-both
 
-  pub in-range-counts : allUpTo 2 (d .contacts .counts) ≡ true
-  unfolding inRange
-  in-range-counts = search (left-of-both, right-of-both)
-
   pub in-range-keys : goodKeys (d .keys) ≡ true
   unfolding inRange
   in-range-keys = search (left-of-both, right-of-both)
-
-  pub in-range-types : allUpTo 3 (d .types) ≡ true
-  unfolding inRange
-  in-range-types = search (left-of-both, right-of-both)
 
   pub in-range-mode : goodMode (d .mode) ≡ true
   unfolding inRange
@@ -101,22 +88,22 @@ module _ (d : Dock) (h : inRange d ≡ true) where
   unfolding inRange
   in-range-waiting = search (left-of-both, right-of-both)
 
-  -- With another part in its range it stays in range; three parts take any value.
+  -- With another part in its range it stays in range; five parts take any value.
   pub in-range-with-map : (map : List ℕ) → allUpTo 104 map ≡ true → inRange (withMap d map) ≡ true
   unfolding inRange
   in-range-with-map map g = rw g (rw in-range-map at h)
 
-  pub in-range-with-contacts : (contacts : Contacts) → allUpTo 2 (contacts .counts) ≡ true → inRange (withContacts d contacts) ≡ true
+  pub in-range-with-contacts : (contacts : Contacts) → inRange (withContacts d contacts) ≡ true
   unfolding inRange
-  in-range-with-contacts contacts g = rw g (rw in-range-counts at h)
+  in-range-with-contacts contacts = h
 
   pub in-range-with-keys : (keys : Keys) → goodKeys keys ≡ true → inRange (withKeys d keys) ≡ true
   unfolding inRange
   in-range-with-keys keys g = rw g (rw in-range-keys at h)
 
-  pub in-range-with-types : (types : List ℕ) → allUpTo 3 types ≡ true → inRange (withTypes d types) ≡ true
+  pub in-range-with-types : (types : List ℕ) → inRange (withTypes d types) ≡ true
   unfolding inRange
-  in-range-with-types types g = rw g (rw in-range-types at h)
+  in-range-with-types types = h
 
   pub in-range-with-mode : (mode : Mode) → goodMode mode ≡ true → inRange (withMode d mode) ≡ true
   unfolding inRange

@@ -1,3 +1,4 @@
 pub mod Power
 pub mod Range
 pub mod Parts
+pub mod Apart

@@ -5,7 +5,6 @@ use mathlib.Core.List.{List, [], _∷_}
 use lib.Dec.{leb, eqb}
 use Rattle.basics.specs.Choice.{both, either, between}
 use Rattle.basics.specs.Lists.{allUpTo}
-use Rattle.contacts.specs.declared.Contacts.{Contacts}
 use Rattle.queue.specs.Queues.{tidy}
 use Rattle.record.specs.declared.Mode.{Mode}
 use Rattle.record.specs.declared.Keys.{Keys}
@@ -15,9 +14,9 @@ use Rattle.record.specs.declared.Dock.{Dock}
 unfoldable pub goodMode : Mode → Bool
 goodMode m = both (between 1 3 (m .set)) (both (leb (m .rate) 127) (leb (m .indicators) 7))
 
--- Flags, a queue, a key or none, and a clock that no interval outlasts.
+-- A queue, a key or none, and a clock that no interval outlasts. A flag of `held` that is not 0 says that its key is held.
 unfoldable pub goodKeys : Keys → Bool
-goodKeys k = both (allUpTo 1 (k .held)) (both (tidy (k .queue)) (both (leb (k .repeating) 104) (leb (k .clock) 240)))
+goodKeys k = both (tidy (k .queue)) (both (leb (k .repeating) 104) (leb (k .clock) 240))
 
 -- A command that takes a value.
 abbrev pub takesValue : ℕ → Bool
@@ -28,13 +27,11 @@ takesValue byte =
 abbrev pub goodWaiting : ℕ → Bool
 goodWaiting byte = either (eqb byte 0) (takesValue byte)
 
--- Every part is in its range.
+-- Every part is in its range; contacts and types may be anything.
 unfoldable pub inRange : Dock → Bool
 inRange d =
     both (allUpTo 104 (d .map))
-    (both (allUpTo 2 (d .contacts .counts))
     (both (goodKeys (d .keys))
-    (both (allUpTo 3 (d .types))
     (both (goodMode (d .mode))
     (both (tidy (d .replies))
-    (goodWaiting (d .waiting)))))))
+    (goodWaiting (d .waiting)))))

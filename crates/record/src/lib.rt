@@ -4,6 +4,7 @@ use queue::Queue;
 
 pub mod power; // power.rt: the record at power-on
 pub mod range; // range.rt: is every part in its range
+pub mod apart; // apart.rt: the record taken apart, so that its arrays can be lent
 
 // What the host has chosen.
 pub struct Mode {
@@ -14,7 +15,7 @@ pub struct Mode {
 
 // The keys as the terminal is told of them.
 pub struct Keys {
-    pub held: [u8; 144], // by key number: 1 held, 0 not; places 0 and 105 on are never set
+    pub held: [u8; 144], // by key number: 0 not held, else held; places 0 and 105 on are never set
     pub queue: Queue, // the key bytes that wait
     pub repeating: u8, // the key that repeats, 0 for none
     pub clock: u8, // the scans until its next repeat: 0 to 240
@@ -32,4 +33,22 @@ pub struct Dock {
     pub waiting: u8, // the command that waits for its value, 0 for none
     pub handover: bool, // keys of a panel that was taken away are still to be released
     pub given: u8, // the last byte given that was not FE; FE before there is one
+}
+
+// What goes to the terminal: the keys without the array.
+pub struct Outgoing {
+    pub queue: Queue,
+    pub repeating: u8,
+    pub clock: u8,
+}
+
+// All but the five arrays.
+pub struct Rest {
+    pub outgoing: Outgoing,
+    pub mode: Mode,
+    pub replies: Queue,
+    pub scanning: bool,
+    pub waiting: u8,
+    pub handover: bool,
+    pub given: u8,
 }

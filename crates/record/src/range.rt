@@ -1,11 +1,17 @@
 // Is every part of a record in its range. The loops keep a flag and run to their ends, so that the compiler takes sixteen entries at a time;
 // the tests are joined by `&` and `|`, so that there is one way through.
 use crate::Dock;
-use crate::Keys;
 use crate::Mode;
+use crate::Outgoing;
+use crate::Rest;
+use crate::apart::rest_of;
 ghost use mathlib.Core.Path.{_≡_};
+ghost use mathlib.Core.List.{List};
+ghost use Prim.Native.Nat.{ℕ};
+ghost use lib.ListN.{length};
 ghost use Rattle.basics.specs.Lists.{allUpTo};
 ghost use Rattle.record.specs.Range.{goodMode, goodKeys, takesValue, inRange};
+ghost use Rattle.record.specs.Apart.{keysWith, dockWith};
 
 // No entry is over a limit.
 pub fn all_up_to(limit: u8, list: &[u8]) -> bool
@@ -29,12 +35,12 @@ fn is_good_mode(m: Mode) -> bool
     (1 <= m.set) & (m.set <= 3) & (m.rate <= 127) & (m.indicators <= 7)
 }
 
-// Flags, a queue, a key or none, and a clock that no interval outlasts.
-fn is_good_keys(k: Keys) -> bool
-    ensures { λ r. ⌜ r ≡ goodKeys k ⌝ }
+// A queue, a key or none, and a clock that no interval outlasts.
+fn is_good_outgoing(o: Outgoing) -> bool
+    ensures { λ r. ⌜ ((held : List ℕ) → r ≡ goodKeys (keysWith held o)) ⌝ }
 {
-    let q = k.queue;
-    all_up_to(1, &k.held) & queue::is_tidy(q) & (k.repeating <= 104) & (k.clock <= 240)
+    let q = o.queue;
+    queue::is_tidy(q) & (o.repeating <= 104) & (o.clock <= 240)
 }
 
 // A command that takes a value.
@@ -44,19 +50,25 @@ pub fn takes_value(byte: u8) -> bool
     (byte == 0xed) | (byte == 0xf0) | (byte == 0xf3) | ((0xfb <= byte) & (byte <= 0xfd))
 }
 
-// Every part is in its range.
+// Every part is in its range: of the arrays only the map has one.
+pub fn parts_in_range(map: &[u8; 144], r: Rest) -> bool
+    requires { ⌜ length (now map) ≡ 144 ⌝ }
+    ensures { λ b. ⌜ ((closed counts held types : List ℕ) → b ≡ inRange (dockWith (now (map .entry)) closed counts held types r)) ⌝ }
+{
+    let outgoing = r.outgoing;
+    let mode = r.mode;
+    let replies = r.replies;
+    all_up_to(104, map)
+        & is_good_outgoing(outgoing)
+        & is_good_mode(mode)
+        & queue::is_tidy(replies)
+        & ((r.waiting == 0) | takes_value(r.waiting))
+}
+
+// The same of a record that is not taken apart.
 pub fn in_range(d: Dock) -> bool
     ensures { λ r. ⌜ r ≡ inRange d ⌝ }
 {
-    let contacts = d.contacts;
-    let keys = d.keys;
-    let mode = d.mode;
-    let replies = d.replies;
-    all_up_to(104, &d.map)
-        & all_up_to(2, &contacts.counts)
-        & is_good_keys(keys)
-        & all_up_to(3, &d.types)
-        & is_good_mode(mode)
-        & queue::is_tidy(replies)
-        & ((d.waiting == 0) | takes_value(d.waiting))
+    let rest = rest_of(d);
+    parts_in_range(&d.map, rest)
 }

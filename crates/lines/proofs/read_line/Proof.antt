@@ -1,17 +1,21 @@
 -- `lines::read_line` meets its contract: it is the read call, printed. Assumes nothing.
-use Rattle.lines.proofs.Printing.{read-steps}
 use borrow.Author.Needs.{needs}
+use Rattle.dock.specs.Answers.{takenWith}
+use Rattle.lines.proofs.Printing.{read-steps}
 use Rattle.lines.proofs.read_line.Statement.{statement}
 use Rattle.lines.proofs.read_line.Tie as tie
 
-read-requires : tie.Need-read-requires
-read-requires c κs = search needs
+read-in-place-requires : tie.Need-read-in-place-requires
+read-in-place-requires c κs = search needs
 
 read-prints-requires : tie.Need-read-prints-requires
 read-prints-requires c κs = search needs
 
 returns : tie.Need-returns
-returns c = read-steps _ _ _ (c .before .before .read .ensures) (c .read-prints .ensures)
+returns c = λ closed counts.
+    let x = c .before .before .read-in-place in
+    let a = c .before .before .before .before .args in
+    read-steps (takenWith (a .map .now) closed counts (x .last .1 .0) (a .types .now) (x .result)) _ _ (x .ensures closed counts) (c .read-prints .ensures)
 
 pub read-line-spec : {M : Type 1} → statement M
-read-line-spec = tie.close (tie.spec read-requires read-prints-requires returns)
+read-line-spec = tie.close (tie.spec read-in-place-requires read-prints-requires returns)

@@ -15,11 +15,14 @@ Inv-loop n e₀ i₀ e i = (i ≤ 15) × (e .bytes ≡ moved (e₀ .bytes) i)
 abbrev μ-loop : tie.MeasureT-loop
 μ-loop n e₀ i₀ e i = 15 - i
 
+cleaned-requires : tie.Need-cleaned-requires Inv-loop μ-loop
+cleaned-requires c κs = c .pre
+
 returns : tie.Need-returns Inv-loop μ-loop
 returns c =
-    let q = c .before .args .q in
+    let q = c .before .before .args .q in
     let places : length (q .bytes) ≡ 16 = search needs in
-    popped-empty q (c .before .pre) places (c .if1 .taken)
+    popped-empty q (c .before .before .pre) places _ (c .before .cleaned .ensures) (c .if1 .taken)
 
 loop-holds : tie.Need-loop-holds Inv-loop μ-loop
 loop-holds c = (omega arith, moved-none _)
@@ -41,10 +44,10 @@ loop-less c = omega arith
 
 loop-again : tie.Need-loop-again Inv-loop μ-loop
 loop-again c =
-    let q = c .before .before .before .before .args .q in
+    let w = c .before .before .before .before in
     let l = c .before .before .loop in
-    let places : length (q .bytes) ≡ 16 = search needs in
-    (omega arith, moved-more (q .bytes) (l .e .bytes) (l .i) (l .inv .1) (omega arith))
+    let places : length (w .cleaned .result .bytes) ≡ 16 = search needs in
+    (omega arith, moved-more (w .cleaned .result .bytes) (l .e .bytes) (l .i) (l .inv .1) (omega arith))
 
 element-write-e-2 : tie.Need-element-write-e-2 Inv-loop μ-loop
 element-write-e-2 c = search needs
@@ -54,9 +57,10 @@ sub-e c = omega arith
 
 returns-2 : tie.Need-returns-2 Inv-loop μ-loop
 returns-2 c =
-    let q = c .before .before .before .args .q in
+    let w = c .before .before .before in
+    let q = w .before .args .q in
     let places : length (q .bytes) ≡ 16 = search needs in
-    popped-by-moving q (c .before .before .before .pre) places _ (c .before .loop .i) (c .before .before .if1 .left) (omega arith) (omega arith) (c .before .loop .inv .1)
+    popped-by-moving q (w .before .pre) places _ (w .cleaned .ensures) _ (c .before .loop .i) (c .before .before .if1 .left) (omega arith) (omega arith) (c .before .loop .inv .1)
 
 pub popped-spec : {M : Type 1} → statement M
 popped-spec =
@@ -64,6 +68,7 @@ popped-spec =
     (tie.spec
     Inv-loop
     μ-loop
+    cleaned-requires
     returns
     loop-holds
     add-e

@@ -19,7 +19,7 @@ none-counted-requires c κs = search needs
 returns-2 : tie.Need-returns-2
 unfolding atRest
 returns-2 c =
-    let e = c .before .before .before in
+    let e = c .before in
     simp (sym (e .before .shows .ensures), not-false (e .before .shows .result) (e .if1 .left)) (c .none-counted .ensures)
 
 pub at-rest-spec : {M : Type 1} → statement M

@@ -25,17 +25,11 @@ mul-first c = omega arith
 loop-holds : tie.Need-loop-holds Inv-loop μ-loop
 loop-holds c = (omega arith, renewed-none _ _ _, packed-none _)
 
-cast-s : tie.Need-cast-s Inv-loop μ-loop
-cast-s c = omega arith
+cast-bit : tie.Need-cast-bit Inv-loop μ-loop
+cast-bit c = omega arith
 
-shr-s : tie.Need-shr-s Inv-loop μ-loop
-shr-s c = omega arith
-
-cast-d : tie.Need-cast-d Inv-loop μ-loop
-cast-d c = omega arith
-
-shr-d : tie.Need-shr-d Inv-loop μ-loop
-shr-d c = omega arith
+shl-bit : tie.Need-shl-bit Inv-loop μ-loop
+shl-bit c = omega arith
 
 add-n : tie.Need-add-n Inv-loop μ-loop
 add-n c = omega arith
@@ -55,18 +49,13 @@ element-write-counts c = omega arith
 next-closed-requires : tie.Need-next-closed-requires Inv-loop μ-loop
 next-closed-requires c κs = search needs
 
-cast-sum : tie.Need-cast-sum Inv-loop μ-loop
-cast-sum c = omega arith
-
-shl-sum : tie.Need-shl-sum Inv-loop μ-loop
-shl-sum c = omega arith
-
 add-sum : tie.Need-add-sum Inv-loop μ-loop
 add-sum c =
     let l = c .before .before .before .before in
     let a = l .before .args in
+    let below = c .before .before .before .loop-test .taken in
     let room =
-    row-room (a .column) (a .seen) (a .closed) (a .counts .now) _ (l .loop .r) (l .loop .inv .1) (omega arith) _ _ (l .loop .inv .2)
+    row-room (a .column) (a .seen) (a .closed) (a .counts .now) _ (l .loop .r) (l .loop .inv .1) below _ _ (l .loop .inv .2)
     (c .next-closed .ensures) in
     omega arith
 
@@ -79,10 +68,11 @@ loop-less c = omega arith
 loop-again : tie.Need-loop-again Inv-loop μ-loop
 loop-again c =
     let l = c .before .before .before .before in
-    let a = l .before .args in (
+    let a = l .before .args in
+    let below = c .before .before .before .loop-test .taken in (
       omega arith,
-      row-counts (a .column) (a .seen) (a .closed) (a .counts .now) _ _ (l .loop .inv .1) _ (c .before .next-count .ensures),
-      row-closed (a .column) (a .seen) (a .closed) (a .counts .now) _ (l .loop .r) (l .loop .inv .1) (omega arith) _ _ (l .loop .inv .2)
+      row-counts (a .column) (a .seen) (a .closed) (a .counts .now) _ (l .loop .r) (l .loop .inv .1) below _ (c .before .next-count .ensures),
+      row-closed (a .column) (a .seen) (a .closed) (a .counts .now) _ (l .loop .r) (l .loop .inv .1) below _ _ (l .loop .inv .2)
           (c .next-closed .ensures),
     )
 
@@ -102,18 +92,14 @@ stirred-spec =
     μ-loop
     mul-first
     loop-holds
-    cast-s
-    shr-s
-    cast-d
-    shr-d
+    cast-bit
+    shl-bit
     add-n
     element-copy-out-n
     next-count-requires
     add-counts
     element-write-counts
     next-closed-requires
-    cast-sum
-    shl-sum
     add-sum
     add-r
     loop-less

@@ -1,60 +1,31 @@
--- `dock::read::read` meets its contract: at each return the tests so far decide what the definition gives. Assumes nothing.
-use mathlib.Core.Path.{sym, _∙_}
+-- `dock::read::read` meets its contract: the record is taken apart, read in place and put together. Assumes nothing.
+use mathlib.Core.Path.{_≡_, ap, _∙_}
 use borrow.Author.Needs.{needs}
-use borrow.Author.Tests.{not-true, not-false}
-use Rattle.dock.proofs.Reading.{read-refused, read-reply, read-key-byte, read-nothing}
+use Rattle.record.specs.declared.Dock.{Dock}
+use Rattle.record.specs.declared.Rest.{Rest}
+use Rattle.record.specs.Apart.{dockWith}
+use Rattle.dock.specs.Answers.{taken}
+use Rattle.dock.specs.Read.{readOf}
 use Rattle.dock.proofs.read.read.Statement.{statement}
 use Rattle.dock.proofs.read.read.Tie as tie
 
-in-range-requires : tie.Need-in-range-requires
-in-range-requires c κs = search needs
+rest-of-requires : tie.Need-rest-of-requires
+rest-of-requires c κs = search needs
+
+read-in-place-requires : tie.Need-read-in-place-requires
+read-in-place-requires c κs = search needs
+
+dock-with-requires : tie.Need-dock-with-requires
+dock-with-requires c κs = search needs
 
 returns : tie.Need-returns
-returns c = read-refused _ _ (c .before .in-range .ensures) (not-true _ (c .if1 .taken))
-
-take-reply-requires : tie.Need-take-reply-requires
-take-reply-requires c κs =
-    let good = c .before .before .before in
-    (sym (good .before .in-range .ensures) ∙ not-false _ (good .if1 .left), search needs)
-
-returns-2 : tie.Need-returns-2
-returns-2 c =
-    let good = c .before .before .before .before in
-    read-reply _ _ (good .before .in-range .ensures) (not-false _ (good .if1 .left)) (c .before .if2 .taken) _ (c .take-reply .ensures)
-
-take-key-byte-requires : tie.Need-take-key-byte-requires
-take-key-byte-requires c κs =
-    let good = c .before .before .before .before .before .before .before in
-    (sym (good .before .in-range .ensures) ∙ not-false _ (good .if1 .left), search needs)
-
-returns-3 : tie.Need-returns-3
-returns-3 c =
-    let quiet = c .before .before .before .before .before in
-    let good = quiet .before .before .before in
-    read-key-byte _ _ (good .before .in-range .ensures) (not-false _ (good .if1 .left)) (quiet .if2 .left) (c .before .if3 .taken)
-    _ (c .take-key-byte .ensures)
-
-close-requires : tie.Need-close-requires
-close-requires c κs =
-    let good = c .before .before .before .before .before .before .before in
-    sym (good .before .in-range .ensures) ∙ not-false _ (good .if1 .left)
-
-returns-4 : tie.Need-returns-4
-returns-4 c =
-    let quiet = c .before .before .before .before .before in
-    let good = quiet .before .before .before in
-    read-nothing _ _ (good .before .in-range .ensures) (not-false _ (good .if1 .left)) (quiet .if2 .left) (c .before .if3 .left)
-    _ (c .close .ensures)
+returns c =
+    let x = c .before .before .read-in-place in
+    let rest = c .before .before .before .before .before .before in
+    let d = rest .before .before .before .before .before .before .before .before .args .d in
+    ap (λ (e : Dock). taken (x .result .given) e) (c .dock-with .ensures)
+    ∙ x .ensures (d .contacts .closed) (d .contacts .counts)
+    ∙ ap (λ (r : Rest). readOf (dockWith (d .map) (d .contacts .closed) (d .contacts .counts) (d .keys .held) (d .types) r)) (rest .rest-of .ensures)
 
 pub read-spec : {M : Type 1} → statement M
-read-spec =
-    tie.close
-    (tie.spec
-    in-range-requires
-    returns
-    take-reply-requires
-    returns-2
-    take-key-byte-requires
-    returns-3
-    close-requires
-    returns-4)
+read-spec = tie.close (tie.spec rest-of-requires read-in-place-requires dock-with-requires returns)

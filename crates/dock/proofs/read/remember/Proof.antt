@@ -6,11 +6,11 @@ use Rattle.dock.proofs.read.remember.Tie as tie
 
 returns : tie.Need-returns
 unfolding remembering
-returns c = simp (eq-eqb _ _ (c .if1 .taken))
+returns c = λ map closed counts held types. simp (eq-eqb _ _ (c .if1 .taken))
 
 returns-2 : tie.Need-returns-2
 unfolding remembering
-returns-2 c = simp (ne-eqb _ _ (c .if1 .left))
+returns-2 c = λ map closed counts held types. simp (ne-eqb _ _ (c .if1 .left))
 
 pub remember-spec : {M : Type 1} → statement M
 remember-spec = tie.close (tie.spec returns returns-2)

@@ -1,58 +1,34 @@
--- `dock::scan::scan` meets its contract: at each return the tests so far decide what the definition gives. Assumes nothing.
-use mathlib.Core.Path.{sym, _∙_}
+-- `dock::scan::scan` meets its contract: the record is taken apart, scanned in place and put together. Assumes nothing.
+use mathlib.Core.Path.{_≡_, ap, _∙_}
 use borrow.Author.Needs.{needs}
-use borrow.Author.Tests.{not-true, not-false}
-use Rattle.dock.proofs.Scanning.{scan-refused, scan-wrong-length, scan-not-heard, scan-heard}
+use Rattle.record.specs.declared.Dock.{Dock}
+use Rattle.record.specs.declared.Rest.{Rest}
+use Rattle.record.specs.Apart.{dockWith}
+use Rattle.dock.specs.Answers.{answered}
+use Rattle.dock.specs.Scan.{scanOf}
 use Rattle.dock.proofs.scan.scan.Statement.{statement}
 use Rattle.dock.proofs.scan.scan.Tie as tie
 
-in-range-requires : tie.Need-in-range-requires
-in-range-requires c κs = search needs
+rest-of-requires : tie.Need-rest-of-requires
+rest-of-requires c κs = search needs
+
+scan-in-place-requires : tie.Need-scan-in-place-requires
+scan-in-place-requires c κs =
+    let good = c .before .before .before .before .before .before .before .before .before .before .before .before .before .before .good in
+    (search (needs, good), search (needs, good), search (needs, good))
+
+dock-with-requires : tie.Need-dock-with-requires
+dock-with-requires c κs = search needs
 
 returns : tie.Need-returns
-returns c = scan-refused _ _ _ (c .before .in-range .ensures) (not-true _ (c .if1 .taken))
-
-returns-2 : tie.Need-returns-2
-returns-2 c =
-    scan-wrong-length _ _ _ (c .before .before .in-range .ensures) (not-false _ (c .before .if1 .left)) (c .if2 .taken)
-
-is-listening-requires : tie.Need-is-listening-requires
-is-listening-requires c κs = search needs
-
-close-requires : tie.Need-close-requires
-close-requires c κs =
-    let good = c .before .before .before in
-    sym (good .before .in-range .ensures) ∙ not-false _ (good .if1 .left)
-
-returns-3 : tie.Need-returns-3
-returns-3 c =
-    let long = c .before .before .before in
-    let good = long .before in
-    scan-not-heard _ _ _ (good .before .in-range .ensures) (not-false _ (good .if1 .left)) (long .if2 .left)
-    _ (c .before .before .is-listening .ensures) _ (not-true _ (c .before .if3 .taken)) (c .close .ensures)
-
-hear-requires : tie.Need-hear-requires
-hear-requires c κs =
-    let long = c .before .before in
-    let good = long .before in
-    (sym (good .before .in-range .ensures) ∙ not-false _ (good .if1 .left), long .if2 .left)
-
-returns-4 : tie.Need-returns-4
-returns-4 c =
-    let long = c .before .before .before in
-    let good = long .before in
-    scan-heard _ _ _ (good .before .in-range .ensures) (not-false _ (good .if1 .left)) (long .if2 .left)
-    _ (c .before .before .is-listening .ensures) _ (not-false _ (c .before .if3 .left)) (c .hear .ensures)
+returns c =
+    let x = c .before .before .scan-in-place in
+    let rest = c .before .before .before .before .before .before .before .before in
+    let a = rest .before .before .before .before .before .before .before .before .before .args in
+    let d = a .d in
+    ap (λ (e : Dock). answered (x .result .answer) e) (c .dock-with .ensures)
+    ∙ x .ensures
+    ∙ ap (λ (r : Rest). scanOf (dockWith (d .map) (d .contacts .closed) (d .contacts .counts) (d .keys .held) (d .types) r) (a .scan .now)) (rest .rest-of .ensures)
 
 pub scan-spec : {M : Type 1} → statement M
-scan-spec =
-    tie.close
-    (tie.spec
-    in-range-requires
-    returns
-    returns-2
-    is-listening-requires
-    close-requires
-    returns-3
-    hear-requires
-    returns-4)
+scan-spec = tie.close (tie.spec rest-of-requires scan-in-place-requires dock-with-requires returns)

@@ -1,5 +1,8 @@
 -- `keying::moves::press` meets its contract: the key is the one that repeats, if it may, else none does. Assumes nothing.
 use borrow.Author.Needs.{needs}
+use Rattle.codes.specs.declared.Action.the-variants.{Press}
+use Rattle.record.specs.Apart.{keysWith}
+use Rattle.keying.specs.Sending.{sends}
 use Rattle.keying.proofs.Good.{parts, rate-small}
 use Rattle.keying.proofs.Sent.{sequence-short}
 use Rattle.keying.proofs.Changes.{pressed-repeats, pressed-once}
@@ -7,30 +10,42 @@ use Rattle.keying.proofs.moves.press.Statement.{statement}
 use Rattle.keying.proofs.moves.press.Tie as tie
 
 bytes-of-requires : tie.Need-bytes-of-requires
-bytes-of-requires c κs = parts _ (c .before .pre .0) .flags
+bytes-of-requires c κs = search needs
 
 queued-requires : tie.Need-queued-requires
-queued-requires c κs = (parts _ (c .before .before .pre .0) .queue, sequence-short _ _ _ _ _ _ (c .bytes-of .ensures))
+unfolding sends
+queued-requires c κs =
+    let s = c .before .before .before in
+    let a = s .args in
+    let k = keysWith (a .held .now) (a .o) in
+    (parts k (s .pre .0) .queue, sequence-short k (a .m) (a .kind) (a .key) Press _ (c .bytes-of .ensures))
 
-element-write-e : tie.Need-element-write-e
-element-write-e c = search needs
+element-write-held : tie.Need-element-write-held
+element-write-held c = search needs
 
 may-repeat-requires : tie.Need-may-repeat-requires
 may-repeat-requires c κs = search needs
 
 delay-of-requires : tie.Need-delay-of-requires
-delay-of-requires c κs = rate-small _ (c .before .before .before .before .before .pre .1)
+delay-of-requires c κs = rate-small _ (c .before .before .before .before .before .before .pre .1)
 
 returns : tie.Need-returns
+unfolding sends
 returns c =
     let m = c .before .before in
-    pressed-repeats _ _ _ _ _ _ (m .before .before .bytes-of .ensures) (m .before .queued .ensures) _ (m .may-repeat .ensures)
-    (c .before .if1 .taken) _ (c .delay-of .ensures)
+    let b = m .before .before in
+    let a = b .before .before .before .args in
+    pressed-repeats (keysWith (a .held .now) (a .o)) (a .m) (a .kind) (a .key) _ _ (b .bytes-of .ensures) (m .before .queued .ensures)
+    _ (m .may-repeat .ensures) (c .before .if1 .taken) _ (c .delay-of .ensures)
 
 returns-2 : tie.Need-returns-2
+unfolding sends
 returns-2 c =
     let m = c .before in
-    pressed-once _ _ _ _ _ _ (m .before .before .bytes-of .ensures) (m .before .queued .ensures) _ (m .may-repeat .ensures) (c .if1 .left)
+    let b = m .before .before in
+    let a = b .before .before .before .args in
+    pressed-once (keysWith (a .held .now) (a .o)) (a .m) (a .kind) (a .key) _ _ (b .bytes-of .ensures) (m .before .queued .ensures)
+    _ (m .may-repeat .ensures) (c .if1 .left)
 
 pub press-spec : {M : Type 1} → statement M
 press-spec =
@@ -38,7 +53,7 @@ press-spec =
     (tie.spec
     bytes-of-requires
     queued-requires
-    element-write-e
+    element-write-held
     may-repeat-requires
     delay-of-requires
     returns

@@ -2,6 +2,9 @@
 use native.Mathlib.Omega.{arith}
 use borrow.Author.Needs.{needs}
 use borrow.Author.Tests.{not-true, not-false}
+use Rattle.codes.specs.declared.Action.the-variants.{Repeat}
+use Rattle.record.specs.Apart.{keysWith}
+use Rattle.keying.specs.Sending.{sends}
 use Rattle.keying.proofs.Good.{parts}
 use Rattle.keying.proofs.Sent.{sequence-short}
 use Rattle.keying.proofs.Due.{repeats-none, repeats-later, repeats-no-more, repeats-lost, repeats-sent}
@@ -9,16 +12,22 @@ use Rattle.keying.proofs.repeating.repeat.Statement.{statement}
 use Rattle.keying.proofs.repeating.repeat.Tie as tie
 
 returns : tie.Need-returns
-returns c = repeats-none _ _ _ _ (c .if1 .taken)
+returns c =
+    let a = c .before .args in
+    repeats-none (keysWith (a .held .now) (a .o)) _ _ _ (c .if1 .taken)
 
 returns-2 : tie.Need-returns-2
-returns-2 c = repeats-later _ _ _ _ (c .before .before .if1 .left) (c .if2 .taken)
+returns-2 c =
+    let s = c .before .before .before in
+    repeats-later (keysWith (s .args .held .now) (s .args .o)) _ _ _ (c .before .before .if1 .left) (c .if2 .taken)
 
 cast-kind : tie.Need-cast-kind
 cast-kind c = search needs
 
 element-copy-out-kind : tie.Need-element-copy-out-kind
-element-copy-out-kind c = omega (arith, parts _ (c .before .before .before .pre .0) .repeating)
+element-copy-out-kind c =
+    let s = c .before .before .before in
+    omega (arith, parts (keysWith (s .args .held .now) (s .args .o)) (s .pre .0) .repeating)
 
 may-repeat-requires : tie.Need-may-repeat-requires
 may-repeat-requires c κs = search needs
@@ -26,31 +35,40 @@ may-repeat-requires c κs = search needs
 returns-3 : tie.Need-returns-3
 returns-3 c =
     let d = c .before .before .before in
-    repeats-no-more _ _ _ _ (d .before .before .if1 .left) (d .if2 .left) _ (c .before .may-repeat .ensures) (not-true _ (c .if3 .taken))
+    let a = d .before .before .before .args in
+    repeats-no-more (keysWith (a .held .now) (a .o)) _ _ _ (d .before .before .if1 .left) (d .if2 .left) _ (c .before .may-repeat .ensures)
+    (not-true _ (c .if3 .taken))
 
 interval-of-requires : tie.Need-interval-of-requires
 interval-of-requires c κs = search needs
 
 returns-4 : tie.Need-returns-4
 returns-4 c =
-    let d = c .before .before .before .before .before in
     let r = c .before .before in
-    repeats-lost _ _ _ _ (d .before .before .if1 .left) (d .if2 .left) _ (r .before .may-repeat .ensures) (not-false _ (r .if3 .left))
-    _ (c .before .interval-of .ensures) (not-true _ (c .if4 .taken))
+    let d = r .before .before .before in
+    let a = d .before .before .before .args in
+    repeats-lost (keysWith (a .held .now) (a .o)) _ _ _ (d .before .before .if1 .left) (d .if2 .left) _ (r .before .may-repeat .ensures)
+    (not-false _ (r .if3 .left)) _ (c .before .interval-of .ensures) (not-true _ (c .if4 .taken))
 
 bytes-of-requires : tie.Need-bytes-of-requires
-bytes-of-requires c κs = parts _ (c .before .before .before .before .before .before .before .before .pre .0) .flags
+bytes-of-requires c κs = search needs
 
 holding-requires : tie.Need-holding-requires
-holding-requires c κs = sequence-short _ _ _ _ _ _ (c .bytes-of .ensures)
+unfolding sends
+holding-requires c κs =
+    let a = c .before .before .before .before .before .before .before .before .before .args in
+    sequence-short (keysWith (a .held .now) (a .o)) (a .m) _ _ Repeat _ (c .bytes-of .ensures)
 
 returns-5 : tie.Need-returns-5
+unfolding sends
 returns-5 c =
     let q = c .before .before in
-    let d = q .before .before .before .before .before in
     let r = q .before .before in
-    repeats-sent _ _ _ _ (d .before .before .if1 .left) (d .if2 .left) _ (r .before .may-repeat .ensures) (not-false _ (r .if3 .left))
-    _ (q .before .interval-of .ensures) (not-false _ (q .if4 .left)) _ _ (c .before .bytes-of .ensures) (c .holding .ensures)
+    let d = r .before .before .before in
+    let a = d .before .before .before .args in
+    repeats-sent (keysWith (a .held .now) (a .o)) _ _ _ (d .before .before .if1 .left) (d .if2 .left) _ (r .before .may-repeat .ensures)
+    (not-false _ (r .if3 .left)) _ (q .before .interval-of .ensures) (not-false _ (q .if4 .left)) _ _ (c .before .bytes-of .ensures)
+    (c .holding .ensures)
 
 pub repeat-spec : {M : Type 1} → statement M
 repeat-spec =

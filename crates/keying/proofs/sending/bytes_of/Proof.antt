@@ -1,6 +1,5 @@
 -- `keying::sending::bytes_of` meets its contract: the encoder is asked for just what the definition names. Assumes nothing.
 use borrow.Author.Needs.{needs}
-use Rattle.keying.specs.Sending.{sends}
 use Rattle.keying.proofs.sending.bytes_of.Statement.{statement}
 use Rattle.keying.proofs.sending.bytes_of.Tie as tie
 
@@ -11,7 +10,6 @@ sequence-of-requires : tie.Need-sequence-of-requires
 sequence-of-requires c κs = search needs
 
 returns : tie.Need-returns
-unfolding sends
 returns c = rw (c .before .modifiers-of .ensures) at (c .sequence-of .ensures)
 
 pub bytes-of-spec : {M : Type 1} → statement M

@@ -1,0 +1,37 @@
+-- Whatever a line does, the map and the contacts keep their sizes. Assumes nothing.
+use mathlib.Core.Path.{_≡_, sym, subst}
+use mathlib.Core.List.{List}
+use Prim.Native.Nat.{ℕ}
+use lib.ListN.{length}
+use Rattle.dock.proofs.Sizes.{Sizes, scan-sizes, read-sizes, swap-sizes, frame-sizes}
+use Rattle.record.specs.declared.Dock.{Dock}
+use Rattle.record.specs.declared.Rest.{Rest}
+use Rattle.record.specs.Apart.{dockWith}
+use Rattle.text.specs.declared.Kind.{Kind}
+use Rattle.text.specs.declared.Kind.the-variants.{Read, Frame, Scan, Map, Malformed}
+use Rattle.text.specs.Digits.{bytesFrom, frameIn}
+use Rattle.text.specs.Lines.{kindOf}
+use Rattle.lines.specs.declared.Stepped.{Stepped}
+use Rattle.lines.specs.declared.Walked.{Walked}
+use Rattle.lines.specs.Steps.{stepBy, stepOf, walkedWith}
+
+by-kind : (kind : Kind) (d : Dock) (line : List ℕ) → Sizes d → Sizes (stepBy kind d line .dock)
+by-kind Read d line s = read-sizes d s
+by-kind Frame d line s = frame-sizes d (frameIn line) s
+by-kind Scan d line s = scan-sizes d (bytesFrom line 0 18) s
+by-kind Map d line s = swap-sizes d (bytesFrom line 0 144) s
+by-kind Malformed d line s = s
+
+pub step-sizes : (d : Dock) (line : List ℕ) → Sizes d → Sizes (stepOf d line .dock)
+unfolding stepOf
+step-sizes d line s = by-kind (kindOf line) d line s
+
+-- The arrays that were lent.
+pub walked-lengths : (map closed counts held types : List ℕ) (r : Rest) (line map′ closed′ counts′ held′ types′ : List ℕ) (x : Walked)
+    → walkedWith map′ closed′ counts′ held′ types′ x ≡ stepOf (dockWith map closed counts held types r) line
+    → length map ≡ 144 → length closed ≡ 18 → length counts ≡ 144
+    → (length map′ ≡ 144) × (length closed′ ≡ 18) × (length counts′ ≡ 144)
+walked-lengths map closed counts held types r line map′ closed′ counts′ held′ types′ x e a b c =
+    let s = step-sizes (dockWith map closed counts held types r) line (record { map = a; closed = b; counts = c }) in
+    let after : Sizes (walkedWith map′ closed′ counts′ held′ types′ x .dock) = subst (λ (y : Stepped). Sizes (y .dock)) (sym e) s in
+    (after .map, after .closed, after .counts)

@@ -1,0 +1,98 @@
+-- `lines::step_in_place` meets its contract: the kind of the line decides, and gives the digits that each call asks for. Assumes nothing.
+use mathlib.Core.Path.{_≡_, refl, sym, _∙_}
+use borrow.Author.Needs.{needs}
+use Rattle.text.specs.declared.Kind.the-variants.{Read, Frame, Scan, Map, Malformed}
+use Rattle.text.proofs.Lengths.{scan-is, frame-is, map-is}
+use Rattle.lines.proofs.Printing.{by-kind}
+use Rattle.record.specs.Apart.{dockWith}
+use Rattle.lines.specs.Steps.{walkedWith}
+use Rattle.lines.proofs.step_in_place.Statement.{statement}
+use Rattle.lines.proofs.step_in_place.Tie as tie
+
+kind-of-requires : tie.Need-kind-of-requires
+kind-of-requires c κs = search needs
+
+enum-told : tie.Need-enum-told
+enum-told c = search needs
+
+scan-line-requires : tie.Need-scan-line-requires
+scan-line-requires c κs =
+    let told = c .before .before .before .before .before in
+    let s = told .before .before .before .before in
+    let is = scan-is (s .args .line .now) (sym (told .before .before .kind-of .ensures) ∙ told .enum-told .given .1) in
+    (s .pre .0, s .pre .1, s .pre .2, is .0, is .1)
+
+enum-told-2 : tie.Need-enum-told-2
+enum-told-2 c = search needs
+
+read-line-requires : tie.Need-read-line-requires
+read-line-requires c κs = search needs
+
+enum-told-3 : tie.Need-enum-told-3
+enum-told-3 c = search needs
+
+frame-line-requires : tie.Need-frame-line-requires
+frame-line-requires c κs =
+    let told = c .before .before .before .before .before in
+    frame-is (told .before .before .before .before .args .line .now) (sym (told .before .before .kind-of .ensures) ∙ told .enum-told3 .given .1)
+
+enum-told-4 : tie.Need-enum-told-4
+enum-told-4 c = search needs
+
+map-line-requires : tie.Need-map-line-requires
+map-line-requires c κs =
+    let told = c .before .before .before .before .before in
+    map-is (told .before .before .before .before .args .line .now) (sym (told .before .before .kind-of .ensures) ∙ told .enum-told4 .given .1)
+
+enum-told-5 : tie.Need-enum-told-5
+enum-told-5 c = search needs
+
+returns : tie.Need-returns
+returns c =
+    let told = c .before .before .before .before .before .before in
+    let a = told .before .before .before .before .args in
+    by-kind (dockWith (a .map .now) (a .closed .now) (a .counts .now) (a .held .now) (a .types .now) (a .r)) _ _ Scan _ (told .before .before .kind-of .ensures) (told .enum-told .given .1) (c .scan-line .ensures)
+
+returns-2 : tie.Need-returns-2
+returns-2 c =
+    let told = c .before .before .before .before in
+    let a = told .before .before .before .before .args in
+    by-kind (dockWith (a .map .now) (a .closed .now) (a .counts .now) (a .held .now) (a .types .now) (a .r)) _ _ Read _ (told .before .before .kind-of .ensures) (told .enum-told2 .given .1)
+    (c .read-line .ensures (a .closed .now) (a .counts .now))
+
+returns-3 : tie.Need-returns-3
+returns-3 c =
+    let told = c .before .before .before .before .before .before in
+    let a = told .before .before .before .before .args in
+    by-kind (dockWith (a .map .now) (a .closed .now) (a .counts .now) (a .held .now) (a .types .now) (a .r)) _ _ Frame _ (told .before .before .kind-of .ensures) (told .enum-told3 .given .1) (c .frame-line .ensures)
+
+returns-4 : tie.Need-returns-4
+returns-4 c =
+    let told = c .before .before .before .before .before .before in
+    let a = told .before .before .before .before .args in
+    by-kind (dockWith (a .map .now) (a .closed .now) (a .counts .now) (a .held .now) (a .types .now) (a .r)) _ _ Map _ (told .before .before .kind-of .ensures) (told .enum-told4 .given .1) (c .map-line .ensures)
+
+returns-5 : tie.Need-returns-5
+returns-5 c =
+    let a = c .before .before .before .before .args in
+    by-kind (dockWith (a .map .now) (a .closed .now) (a .counts .now) (a .held .now) (a .types .now) (a .r)) _ _ Malformed _ (c .before .before .kind-of .ensures) (c .enum-told5 .given .1) refl
+
+pub step-in-place-spec : {M : Type 1} → statement M
+step-in-place-spec =
+    tie.close
+    (tie.spec
+    kind-of-requires
+    enum-told
+    scan-line-requires
+    enum-told-2
+    read-line-requires
+    enum-told-3
+    frame-line-requires
+    enum-told-4
+    map-line-requires
+    enum-told-5
+    returns
+    returns-2
+    returns-3
+    returns-4
+    returns-5)

@@ -1,0 +1,79 @@
+// The record taken apart: a call that works in place is lent the arrays and takes the rest by value.
+use crate::Dock;
+use crate::Keys;
+use crate::Outgoing;
+use crate::Rest;
+use contacts::Contacts;
+ghost use mathlib.Core.Path.{_≡_};
+ghost use Rattle.record.specs.Apart.{outgoingOf, restOf, keysWith, dockWith};
+
+// The keys without the array.
+pub fn outgoing_of(k: Keys) -> Outgoing
+    ensures { λ r. ⌜ r ≡ outgoingOf k ⌝ }
+{
+    let queue = k.queue;
+    Outgoing {
+        queue,
+        repeating: k.repeating,
+        clock: k.clock,
+    }
+}
+
+// All but the arrays.
+pub fn rest_of(d: Dock) -> Rest
+    ensures { λ r. ⌜ r ≡ restOf d ⌝ }
+{
+    let keys = d.keys;
+    let mode = d.mode;
+    let replies = d.replies;
+    Rest {
+        outgoing: outgoing_of(keys),
+        mode,
+        replies,
+        scanning: d.scanning,
+        waiting: d.waiting,
+        handover: d.handover,
+        given: d.given,
+    }
+}
+
+// The keys put together.
+pub fn keys_with(held: [u8; 144], o: Outgoing) -> Keys
+    ensures { λ r. ⌜ r ≡ keysWith held o ⌝ }
+{
+    let queue = o.queue;
+    Keys {
+        held,
+        queue,
+        repeating: o.repeating,
+        clock: o.clock,
+    }
+}
+
+// The record put together.
+pub fn dock_with(
+    map: [u8; 144],
+    closed: [u8; 18],
+    counts: [u8; 144],
+    held: [u8; 144],
+    types: [u8; 105],
+    r: Rest,
+) -> Dock
+    ensures { λ d. ⌜ d ≡ dockWith map closed counts held types r ⌝ }
+{
+    let outgoing = r.outgoing;
+    let mode = r.mode;
+    let replies = r.replies;
+    Dock {
+        map,
+        contacts: Contacts { closed, counts },
+        keys: keys_with(held, outgoing),
+        types,
+        mode,
+        replies,
+        scanning: r.scanning,
+        waiting: r.waiting,
+        handover: r.handover,
+        given: r.given,
+    }
+}
