@@ -1,9 +1,10 @@
 -- Eight contacts in a byte: packing and looking at a row undo each other, and packing can go row by row. Assumes nothing.
 use mathlib.Core.Path.{_≡_, refl, sym, ap, _∙_}
 use Prim.Native.Nat.{ℕ, zero, suc, _+_, _*_, _/_, _%_, _^_, _≤_, _<_}
-use native.Mathlib.Nat.{div-div-eq-div-mul, div-add-mod', mul-le-mul-right, pow-suc, pow-le-pow-right}
+use native.Mathlib.Nat.{div-div-eq-div-mul, div-add-mod', add-comm, mul-le-mul-right, pow-suc}
 use native.Mathlib.Numerals.{add-one}
 use native.Mathlib.Omega.{arith}
+use lib.Bits.{bitOr, or-shifted-r}
 use Rattle.contacts.specs.Scans.{rowOf}
 use Rattle.contacts.specs.Counts.{packed}
 
@@ -76,12 +77,7 @@ module _ (f : ℕ → ℕ) (h : (i : ℕ) → f i < 2) where
       let row : f n * 2 ^ n ≤ 1 * 2 ^ n = mul-le-mul-right (2 ^ n) (omega (arith, h n)) in
       omega (arith, packed-small n, pow-suc 2 n)
 
-  -- One more row: it fits.
-  module _ (r s : ℕ) (b : r < 8) (i : s ≡ packedTo r f) where
-    pub packed-room : s + f r * 2 ^ r < 256
-    unfolding packedTo
-    packed-room = rw i (omega (arith, packed-small (suc r), pow-le-pow-right {n = 2} (omega arith) {i = suc r} {j = 8} (omega arith)))
-
-    pub packed-more : s + f r * 2 ^ r ≡ packedTo (r + 1) f
-    unfolding packedTo
-    packed-more = rw (i, add-one)
+  -- One more row: its bit is above those below it.
+  pub packed-more : (r s : ℕ) → s ≡ packedTo r f → bitOr s (f r * 2 ^ r) ≡ packedTo (r + 1) f
+  unfolding packedTo
+  packed-more r s i = rw (i, add-one) (or-shifted-r (f r) r (packedTo r f) (packed-small r) ∙ add-comm (f r * 2 ^ r) (packedTo r f))

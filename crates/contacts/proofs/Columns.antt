@@ -7,14 +7,14 @@ use native.Mathlib.Nat.{le-antisymm, eq-of-mul-eq-mul-right, pow-suc, pow-le-pow
 use native.Mathlib.Decide.{ℕ-discrete}
 use native.Mathlib.Omega.{arith}
 use borrow.Author.Tests.{eq-eqb, ne-eqb}
-use lib.Bits.{bitAnd, and-high}
+use lib.Bits.{bitAnd, bitOr, and-high}
 use lib.Dec.{ltb}
 use lib.ListN.{getD, set}
 use Rattle.basics.specs.Choice.{pick}
 use Rattle.contacts.specs.Scans.{rowOf}
 use Rattle.contacts.specs.Counts.{nextCount, nextClosed, renewed, columnCounts, columnClosed}
 use Rattle.contacts.proofs.Pointwise.{next-closed-small}
-use Rattle.contacts.proofs.Bytes.{packedTo, packed-all, packed-room, packed-more}
+use Rattle.contacts.proofs.Bytes.{packedTo, packed-all, packed-more}
 use Rattle.contacts.proofs.Renewals.{renewed-more, renewed-later}
 
 -- A row left at its bit: the byte without its other rows.
@@ -84,11 +84,8 @@ module _ (column seen closed : ℕ) (counts : List ℕ) where
             ∙ ap (λ (n : ℕ). nextClosed (rowOf seen r) (rowOf closed r) n * 2 ^ r)
             (ap (λ (x : List ℕ). getD x (8 * column + r) 0) i ∙ renewed-later rowCount (8 * column) r counts (8 * column + r) (omega arith))
 
-        pub row-room : sum + v < 256
-        row-room = rw was (packed-room rowClosed small r sum b j)
-
-        pub row-closed : sum + v ≡ packedTo (r + 1) rowClosed
-        row-closed = rw was (packed-more rowClosed small r sum b j)
+        pub row-closed : bitOr sum v ≡ packedTo (r + 1) rowClosed
+        row-closed = rw was (packed-more rowClosed small r sum j)
 
     module _ (a : r ≤ 8) (b : 8 ≤ r) where
       pub all-counts : l ≡ columnCounts column seen closed counts

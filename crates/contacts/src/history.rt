@@ -64,7 +64,7 @@ fn stirred(counts: &mut [u8; 144], column: usize, seen: u8, closed: u8) -> u8
         let d = closed & bit;
         let n = counts[first + r];
         counts[first + r] = next_count(s, d, n);
-        sum += next_closed(s, d, n);
+        sum = sum | next_closed(s, d, n);
         r += 1;
     }
     sum

@@ -26,11 +26,8 @@ module _ (k : Keys) (m : Mode) (type key : ℕ) where
   unfolding released
   released-by-its-bytes s e = ap (releasedWith k m key) (sequence-is k m type key Release s e)
 
-  module _ (s : Sequence) (q : Queue) (e : s ≡ holding (sends k m type key Press)) (f : q ≡ queuedOf (k .queue) m (contents s))
+  module _ (q : Queue) (queue-is : q ≡ queuedOf (k .queue) m (sends k m type key Press))
       (may : Bool) (t : may ≡ mayRepeat (m .set) key type) where
-    queue-is : q ≡ queuedOf (k .queue) m (sends k m type key Press)
-    queue-is = f ∙ ap (queuedOf (k .queue) m) (sequence-is k m type key Press s e)
-
     pub pressed-repeats : may ≡ true → (delay : ℕ) → delay ≡ delayOf (m .rate) → keys (set (k .held) key 1) q key delay ≡ pressed k m type key
     unfolding pressed
     pressed-repeats y delay d = simp (sym t, y, d, queue-is)

@@ -6,3 +6,4 @@ pub mod Rows
 pub mod Due
 pub mod Leaving
 pub mod Places
+pub mod Silence

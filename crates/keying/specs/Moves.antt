@@ -7,6 +7,7 @@ use Rattle.basics.specs.Choice.{pick}
 use Rattle.codes.specs.declared.Action.the-variants.{Press, Release}
 use Rattle.codes.specs.Codes.{mayRepeat}
 use Rattle.contacts.specs.Scans.{rowOf, contact}
+use Rattle.queue.specs.declared.Queue.{Queue}
 use Rattle.record.specs.declared.Mode.{Mode}
 use Rattle.record.specs.declared.Keys.{Keys}
 use Rattle.keying.specs.Sending.{sends, queuedOf}
@@ -22,15 +23,19 @@ pressed k m type key =
       clock = pick (mayRepeat (m .set) key type) (delayOf (m .rate)) 0;
     }
 
--- A key is released, and these bytes say so: they are queued, it is not held any more, and if it was the one that repeats, none does.
-unfoldable pub releasedWith : Keys → Mode → ℕ → List ℕ → Keys
-releasedWith k m key bytes =
+-- A key is let go, and this is the queue then: it is not held any more, and if it was the one that repeats, none does.
+abbrev pub letGo : Keys → ℕ → Queue → Keys
+letGo k key queue =
     record {
       held = set (k .held) key 0;
-      queue = queuedOf (k .queue) m bytes;
+      queue = queue;
       repeating = pick (eqb (k .repeating) key) 0 (k .repeating);
       clock = pick (eqb (k .repeating) key) 0 (k .clock);
     }
+
+-- A key is released, and these bytes say so: they are queued.
+unfoldable pub releasedWith : Keys → Mode → ℕ → List ℕ → Keys
+releasedWith k m key bytes = letGo k key (queuedOf (k .queue) m bytes)
 
 -- A key is released with the bytes that its release sends as things stand.
 unfoldable pub released : Keys → Mode → ℕ → ℕ → Keys

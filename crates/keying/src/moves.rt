@@ -1,9 +1,10 @@
 // A key goes down or comes up. The flags of the held keys are lent, and change in place.
 use crate::repeating::delay_of;
-use crate::sending::bytes_of;
 use crate::sending::queued;
-use codes::Action;
+use crate::sending::queued_press;
+use crate::sending::queued_release;
 use codes::Sequence;
+use queue::Queue;
 use record::Mode;
 use record::Outgoing;
 ghost use mathlib.Core.Path.{_≡_};
@@ -14,7 +15,7 @@ ghost use Rattle.basics.specs.Lists.{allUpTo};
 ghost use Rattle.queue.specs.Queues.{contents};
 ghost use Rattle.record.specs.Apart.{keysWith};
 ghost use Rattle.record.specs.Range.{goodKeys, goodMode};
-ghost use Rattle.keying.specs.Moves.{pressed, releasedWith, released, moved, turnsTo, rowsTo};
+ghost use Rattle.keying.specs.Moves.{pressed, letGo, releasedWith, released, moved, turnsTo, rowsTo};
 
 // A key is pressed.
 pub fn press(held: &mut [u8; 144], o: Outgoing, m: Mode, kind: u8, key: u8) -> Outgoing
@@ -23,7 +24,7 @@ pub fn press(held: &mut [u8; 144], o: Outgoing, m: Mode, kind: u8, key: u8) -> O
 {
     let q = o.queue;
     let mut e = o;
-    e.queue = queued(q, m, bytes_of(held, m, kind, key, Action::Press));
+    e.queue = queued_press(held, q, m, kind, key);
     held[key as usize] = 1;
     if codes::strokes::may_repeat(m.set, key, kind) {
         e.repeating = key;
@@ -35,14 +36,13 @@ pub fn press(held: &mut [u8; 144], o: Outgoing, m: Mode, kind: u8, key: u8) -> O
     e
 }
 
-// A key is released, and these bytes say so.
-pub fn release_with(held: &mut [u8; 144], o: Outgoing, m: Mode, key: u8, s: Sequence) -> Outgoing
-    requires { ⌜ (goodKeys (keysWith (now held) o) ≡ true) × (key < 144) × (s .length ≤ 8) ⌝ }
-    ensures { λ r. ⌜ keysWith (now (held .exit)) r ≡ releasedWith (keysWith (now (held .entry)) o) m key (contents s) ⌝ }
+// A key is let go, and this is the queue then.
+fn let_go(held: &mut [u8; 144], o: Outgoing, key: u8, q: Queue) -> Outgoing
+    requires { ⌜ key < 144 ⌝ }
+    ensures { λ r. ⌜ keysWith (now (held .exit)) r ≡ letGo (keysWith (now (held .entry)) o) key q ⌝ }
 {
-    let q = o.queue;
     let mut e = o;
-    e.queue = queued(q, m, s);
+    e.queue = q;
     held[key as usize] = 0;
     if o.repeating == key {
         e.repeating = 0;
@@ -51,13 +51,24 @@ pub fn release_with(held: &mut [u8; 144], o: Outgoing, m: Mode, key: u8, s: Sequ
     e
 }
 
+// A key is released, and these bytes say so.
+pub fn release_with(held: &mut [u8; 144], o: Outgoing, m: Mode, key: u8, s: Sequence) -> Outgoing
+    requires { ⌜ (goodKeys (keysWith (now held) o) ≡ true) × (key < 144) × (s .length ≤ 8) ⌝ }
+    ensures { λ r. ⌜ keysWith (now (held .exit)) r ≡ releasedWith (keysWith (now (held .entry)) o) m key (contents s) ⌝ }
+{
+    let q = o.queue;
+    let after = queued(q, m, s);
+    let_go(held, o, key, after)
+}
+
 // A key is released.
 pub fn release(held: &mut [u8; 144], o: Outgoing, m: Mode, kind: u8, key: u8) -> Outgoing
     requires { ⌜ (goodKeys (keysWith (now held) o) ≡ true) × (key < 144) ⌝ }
     ensures { λ r. ⌜ keysWith (now (held .exit)) r ≡ released (keysWith (now (held .entry)) o) m kind key ⌝ }
 {
-    let s = bytes_of(held, m, kind, key, Action::Release);
-    release_with(held, o, m, key, s)
+    let q = o.queue;
+    let after = queued_release(held, q, m, kind, key);
+    let_go(held, o, key, after)
 }
 
 // The contact of a key turned, to closed (1) or to open (0).

@@ -4,8 +4,11 @@ use codes::Sequence;
 use queue::Queue;
 use record::Mode;
 ghost use mathlib.Core.Path.{_≡_};
-ghost use mathlib.Core.Bool.{true};
+ghost use mathlib.Core.Bool.{true, not};
 ghost use Prim.Native.Nat.{_≤_};
+ghost use Rattle.basics.specs.Choice.{either};
+ghost use Rattle.codes.specs.declared.Action.the-variants.{Press, Release};
+ghost use Rattle.codes.specs.Codes.{pausesAtOnce, sendsRelease};
 ghost use Rattle.codes.specs.Sequences.{holding};
 ghost use Rattle.keys.specs.Keys.{markOf};
 ghost use Rattle.queue.specs.Queues.{tidy, contents};
@@ -54,4 +57,35 @@ pub fn queued(q: Queue, m: Mode, s: Sequence) -> Queue
     ensures { λ r. ⌜ r ≡ queuedOf q m (contents s) ⌝ }
 {
     queue::pushed(q, s, mark_of(m.set))
+}
+
+// A release that sends nothing: that of PAUSE, which sent all on its press, and in set 3 those of keys whose type sends none.
+fn is_silent(set: u8, key: u8, kind: u8) -> bool
+    ensures { λ r. ⌜ r ≡ either (pausesAtOnce set key) (not (sendsRelease set kind)) ⌝ }
+{
+    let pauses = (key == codes::PAUSE) & ((set == 1) | (set == 2));
+    let sends = (set != 3) | (kind == keys::MAKE_BREAK) | (kind == keys::TYPEMATIC_MAKE_BREAK);
+    pauses | !sends
+}
+
+// The queue after a press. A press sends something, and a full queue takes nothing, so there the mark is put without asking what.
+pub fn queued_press(held: &[u8; 144], q: Queue, m: Mode, kind: u8, key: u8) -> Queue
+    requires { ⌜ tidy q ≡ true ⌝ }
+    ensures { λ r. ⌜ r ≡ queuedOf q m (sendsWith (now (held .entry)) m kind key Press) ⌝ }
+{
+    if q.length == 16 {
+        return queue::marked(q, mark_of(m.set));
+    }
+    queued(q, m, bytes_of(held, m, kind, key, Action::Press))
+}
+
+// The queue after a release, likewise, unless it sends nothing.
+pub fn queued_release(held: &[u8; 144], q: Queue, m: Mode, kind: u8, key: u8) -> Queue
+    requires { ⌜ tidy q ≡ true ⌝ }
+    ensures { λ r. ⌜ r ≡ queuedOf q m (sendsWith (now (held .entry)) m kind key Release) ⌝ }
+{
+    if (q.length == 16) & !is_silent(m.set, key, kind) {
+        return queue::marked(q, mark_of(m.set));
+    }
+    queued(q, m, bytes_of(held, m, kind, key, Action::Release))
 }

@@ -80,6 +80,14 @@ module _ (q : Queue) (t : tidy q ≡ true) (places : length (q .bytes) ≡ 16) (
       ∙ marked mark (waiting q) (omega (arith, count))
       ∙ ap queueOf (sym (pushed-nothing mark (waiting q) (contents s) full))
 
+-- The mark alone.
+pub marked-last : (q : Queue) → tidy q ≡ true → length (q .bytes) ≡ 16 → (clean : Queue) → clean ≡ queueOf (waiting q) → (mark : ℕ) → 1 ≤ q .length
+    → queue (set (clean .bytes) (q .length - 1) mark) (clean .length) ≡ queueOf (lastReplaced mark (waiting q))
+unfolding queueOf
+marked-last q t places clean is mark h =
+    let count : length (waiting q) ≡ q .length = length-waiting q t places in
+    ap₂ (λ (x : Queue) (n : ℕ). queue (set (x .bytes) (n - 1) mark) (x .length)) is (sym count) ∙ marked mark (waiting q) (omega (arith, count))
+
 -- Pushed onto an empty queue, a sequence waits alone.
 pub pushed-alone : (q : Queue) (s : Sequence) (mark : ℕ) → q ≡ queueOf [] → s .length ≤ 8 → length (s .bytes) ≡ 8
     → queueOf (pushedTo mark (waiting q) (contents s)) ≡ queueOf (contents s)

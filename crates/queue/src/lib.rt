@@ -5,7 +5,7 @@ ghost use mathlib.Core.Bool.{true};
 ghost use mathlib.Core.List.{[]};
 ghost use Prim.Native.Nat.{_≤_};
 ghost use lib.ListN.{drop};
-ghost use Rattle.queue.specs.Queues.{waiting, queueOf, tidy, contents, hasRoom, pushedTo};
+ghost use Rattle.queue.specs.Queues.{waiting, queueOf, tidy, contents, hasRoom, lastReplaced, pushedTo};
 
 // The first `length` of `bytes` wait, the oldest in front. What is pushed or popped leaves zeros behind them.
 pub struct Queue {
@@ -50,6 +50,17 @@ pub fn fits(q: Queue, s: Sequence) -> bool
     ensures { λ r. ⌜ r ≡ hasRoom (waiting q) (s .length) ⌝ }
 {
     q.length + s.length <= 16
+}
+
+// The queue with its last byte replaced by the mark.
+pub fn marked(q: Queue, mark: u8) -> Queue
+    requires { ⌜ (tidy q ≡ true) × (1 ≤ q .length) ⌝ }
+    ensures { λ r. ⌜ r ≡ queueOf (lastReplaced mark (waiting q)) ⌝ }
+{
+    let at = q.length - 1;
+    let mut e = cleaned(q);
+    e.bytes[at] = mark;
+    e
 }
 
 // The queue with a sequence behind its bytes, or with its last byte replaced by the mark.

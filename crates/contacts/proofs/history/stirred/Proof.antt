@@ -7,7 +7,7 @@ use borrow.Author.Needs.{needs}
 use Rattle.contacts.specs.Counts.{renewed}
 use Rattle.contacts.proofs.Bytes.{packedTo, packed-none}
 use Rattle.contacts.proofs.Renewals.{renewed-none}
-use Rattle.contacts.proofs.Columns.{rowCount, rowClosed, row-counts, row-room, row-closed, all-counts, all-closed}
+use Rattle.contacts.proofs.Columns.{rowCount, rowClosed, row-counts, row-closed, all-counts, all-closed}
 use Rattle.contacts.proofs.history.stirred.Statement.{statement}
 use Rattle.contacts.proofs.history.stirred.Tie as tie
 
@@ -48,16 +48,6 @@ element-write-counts c = omega arith
 
 next-closed-requires : tie.Need-next-closed-requires Inv-loop μ-loop
 next-closed-requires c κs = search needs
-
-add-sum : tie.Need-add-sum Inv-loop μ-loop
-add-sum c =
-    let l = c .before .before .before .before in
-    let a = l .before .args in
-    let below = c .before .before .before .loop-test .taken in
-    let room =
-    row-room (a .column) (a .seen) (a .closed) (a .counts .now) _ (l .loop .r) (l .loop .inv .1) below _ _ (l .loop .inv .2)
-    (c .next-closed .ensures) in
-    omega arith
 
 add-r : tie.Need-add-r Inv-loop μ-loop
 add-r c = omega arith
@@ -100,7 +90,6 @@ stirred-spec =
     add-counts
     element-write-counts
     next-closed-requires
-    add-sum
     add-r
     loop-less
     loop-again
