@@ -1,3 +1,0 @@
-pub mod ByNumber
-pub mod Sums
-pub mod Extended
