@@ -1,6 +1,8 @@
 // How every accepted call ends: an open handover goes on.
 use record::Dock;
 use record::Rest;
+use record::apart::dock_with;
+use record::apart::rest_of;
 ghost use mathlib.Core.Path.{_≡_};
 ghost use mathlib.Core.Bool.{true};
 ghost use mathlib.Core.List.{List};
@@ -9,14 +11,11 @@ ghost use Rattle.record.specs.Apart.{dockWith};
 ghost use Rattle.record.specs.Range.{inRange};
 ghost use Rattle.dock.specs.Closing.{closing, restInRange};
 
-// In place: the flags of the held keys are lent.
-pub fn close_in_place(held: &mut [u8; 144], types: &[u8; 105], r: Rest) -> Rest
-    requires { ⌜ restInRange (now held) (now types) r ≡ true ⌝ }
+// An open handover goes on: the flags of the held keys are lent. It is apart, so that calls do not pay for it while none is open.
+fn go_on(held: &mut [u8; 144], types: &[u8; 105], r: Rest) -> Rest
+    requires { ⌜ (restInRange (now held) (now types) r ≡ true) × (r .handover ≡ true) ⌝ }
     ensures { λ e. ⌜ ((map closed counts : List ℕ) → dockWith map closed counts (now (held .exit)) (now (types .entry)) e ≡ closing (dockWith map closed counts (now (held .entry)) (now (types .entry)) r)) ⌝ }
 {
-    if !r.handover {
-        return r;
-    }
     let o = r.outgoing;
     let m = r.mode;
     let p = keying::handover::hand_over(held, o, m, types);
@@ -27,6 +26,17 @@ pub fn close_in_place(held: &mut [u8; 144], types: &[u8; 105], r: Rest) -> Rest
     e
 }
 
+// In place.
+pub fn close_in_place(held: &mut [u8; 144], types: &[u8; 105], r: Rest) -> Rest
+    requires { ⌜ restInRange (now held) (now types) r ≡ true ⌝ }
+    ensures { λ e. ⌜ ((map closed counts : List ℕ) → dockWith map closed counts (now (held .exit)) (now (types .entry)) e ≡ closing (dockWith map closed counts (now (held .entry)) (now (types .entry)) r)) ⌝ }
+{
+    if !r.handover {
+        return r;
+    }
+    go_on(held, types, r)
+}
+
 // The whole record.
 pub fn close(d: Dock) -> Dock
     requires { ⌜ inRange d ≡ true ⌝ }
@@ -35,14 +45,14 @@ pub fn close(d: Dock) -> Dock
     if !d.handover {
         return d;
     }
-    let k = d.keys;
-    let o = record::apart::outgoing_of(k);
-    let m = d.mode;
-    let mut held = k.held;
-    let h = keying::handover::hand_over(&mut held, o, m, &d.types);
-    let left = h.outgoing;
-    let mut e = d;
-    e.keys = record::apart::keys_with(held, left);
-    e.handover = h.unfinished;
-    e
+    let contacts = d.contacts;
+    let keys = d.keys;
+    let map = d.map;
+    let closed = contacts.closed;
+    let counts = contacts.counts;
+    let mut held = keys.held;
+    let types = d.types;
+    let r = rest_of(d);
+    let e = go_on(&mut held, &types, r);
+    dock_with(map, closed, counts, held, types, e)
 }

@@ -1,5 +1,5 @@
 // The dock (docs/RULES.md): one module for each call. Every call takes the record and gives it back beside its answer. A refused
-// call gives it back as it was. Scans and reads can also be had in place: the arrays are lent, and only the rest is passed.
+// call gives it back as it was. Scans, reads and frames can also be had in place: the arrays are lent, and only the rest is passed.
 use record::Dock;
 use record::Rest;
 

@@ -1,116 +1,162 @@
-// What each command does at once.
+// What each command does at once. The arrays are lent where a command changes them, and the rest of the record is passed.
 use crate::answers::reply_to;
-use record::Dock;
+use record::Mode;
+use record::Outgoing;
+use record::Rest;
 ghost use mathlib.Core.Path.{_≡_};
+ghost use mathlib.Core.List.{List};
+ghost use Prim.Native.Nat.{ℕ};
+ghost use Rattle.record.specs.Apart.{dockWith};
 ghost use Rattle.host.specs.Commands.{cleared, unrepeated, readied, enabled, defaulted, disabled, typed, restarted, obeyed, commanded};
 
 // No key byte waits.
-fn clear(d: Dock) -> Dock
-    ensures { λ r. ⌜ r ≡ cleared d ⌝ }
+fn clear(r: Rest) -> Rest
+    ensures { λ e. ⌜ ((map closed counts held types : List ℕ) → dockWith map closed counts held types e ≡ cleared (dockWith map closed counts held types r)) ⌝ }
 {
-    let mut k = d.keys;
-    k.queue = queue::empty();
-    let mut e = d;
-    e.keys = k;
+    let mut o = r.outgoing;
+    o.queue = queue::empty();
+    let mut e = r;
+    e.outgoing = o;
     e
 }
 
-// No key repeats.
-fn unrepeat(d: Dock) -> Dock
-    ensures { λ r. ⌜ r ≡ unrepeated d ⌝ }
+// No key byte waits, and no key repeats.
+fn quieten(r: Rest) -> Rest
+    ensures { λ e. ⌜ ((map closed counts held types : List ℕ) → dockWith map closed counts held types e ≡ unrepeated (cleared (dockWith map closed counts held types r))) ⌝ }
 {
-    let mut k = d.keys;
-    k.repeating = 0;
-    k.clock = 0;
-    let mut e = d;
-    e.keys = k;
+    let mut o = r.outgoing;
+    o.queue = queue::empty();
+    o.repeating = 0;
+    o.clock = 0;
+    let mut e = r;
+    e.outgoing = o;
     e
 }
 
 // F0, until the set is given: nothing queued, nothing repeating, default rate.
-fn ready_for_set(d: Dock) -> Dock
-    ensures { λ r. ⌜ r ≡ readied d ⌝ }
+fn ready_for_set(r: Rest) -> Rest
+    ensures { λ e. ⌜ ((map closed counts held types : List ℕ) → dockWith map closed counts held types e ≡ readied (dockWith map closed counts held types r)) ⌝ }
 {
-    let mut m = d.mode;
+    let mut m = r.mode;
     m.rate = 0x2b;
-    let mut e = unrepeat(clear(d));
+    let mut e = quieten(r);
     e.mode = m;
     e
 }
 
 // F4: nothing queued, nothing repeating, scanning on.
-fn enable(d: Dock) -> Dock
-    ensures { λ r. ⌜ r ≡ enabled d ⌝ }
+fn enable(r: Rest) -> Rest
+    ensures { λ e. ⌜ ((map closed counts held types : List ℕ) → dockWith map closed counts held types e ≡ enabled (dockWith map closed counts held types r)) ⌝ }
 {
-    let empty = clear(d);
-    let mut on = unrepeat(empty);
+    let mut on = quieten(r);
     on.scanning = true;
     on
 }
 
 // F6: nothing queued, nothing repeating, set 2, default rate and types.
-fn set_default(d: Dock) -> Dock
-    ensures { λ r. ⌜ r ≡ defaulted d ⌝ }
+fn set_default(types: &mut [u8; 105], r: Rest) -> Rest
+    ensures { λ e. ⌜ ((map closed counts held : List ℕ) → dockWith map closed counts held (now (types .exit)) e ≡ defaulted (dockWith map closed counts held (now (types .entry)) r)) ⌝ }
 {
-    let mut m = d.mode;
+    let mut m = r.mode;
     m.set = 2;
     m.rate = 0x2b;
-    let types = record::power::default_types();
-    let mut e = unrepeat(clear(d));
+    let defaults = record::power::default_types();
+    *types = defaults;
+    let mut e = quieten(r);
     e.mode = m;
-    e.types = types;
     e
 }
 
 // F5: the same, and scanning off.
-fn disable(d: Dock) -> Dock
-    ensures { λ r. ⌜ r ≡ disabled d ⌝ }
+fn disable(types: &mut [u8; 105], r: Rest) -> Rest
+    ensures { λ e. ⌜ ((map closed counts held : List ℕ) → dockWith map closed counts held (now (types .exit)) e ≡ disabled (dockWith map closed counts held (now (types .entry)) r)) ⌝ }
 {
-    let mut off = set_default(d);
+    let mut off = set_default(types, r);
     off.scanning = false;
     off
 }
 
 // F7 to FA: nothing queued, and every key of one type.
-fn set_all_types(d: Dock, kind: u8) -> Dock
-    ensures { λ r. ⌜ r ≡ typed kind d ⌝ }
+fn set_all_types(types: &mut [u8; 105], r: Rest, kind: u8) -> Rest
+    ensures { λ e. ⌜ ((map closed counts held : List ℕ) → dockWith map closed counts held (now (types .exit)) e ≡ typed kind (dockWith map closed counts held (now (types .entry)) r)) ⌝ }
 {
-    let types = [kind; 105];
-    let mut e = clear(d);
-    e.types = types;
-    e
+    let all = [kind; 105];
+    *types = all;
+    clear(r)
 }
 
 // FF: as at power-on, but for the map. The replies are replaced when the command is answered.
-fn reset(d: Dock) -> Dock
-    ensures { λ r. ⌜ r ≡ restarted d ⌝ }
+fn reset(
+    closed: &mut [u8; 18],
+    counts: &mut [u8; 144],
+    held: &mut [u8; 144],
+    types: &mut [u8; 105],
+    r: Rest,
+) -> Rest
+    ensures { λ e. ⌜ ((map : List ℕ) → dockWith map (now (closed .exit)) (now (counts .exit)) (now (held .exit)) (now (types .exit)) e ≡ restarted (dockWith map (now (closed .entry)) (now (counts .entry)) (now (held .entry)) (now (types .entry)) r)) ⌝ }
 {
-    let map = d.map;
-    let old = d.replies;
-    record::power::fresh(map, old)
+    let no_columns = [0; 18];
+    let no_keys = [0; 144];
+    let defaults = record::power::default_types();
+    *closed = no_columns;
+    *counts = no_keys;
+    *held = no_keys;
+    *types = defaults;
+    let replies = r.replies;
+    Rest {
+        outgoing: Outgoing {
+            queue: queue::empty(),
+            repeating: 0,
+            clock: 0,
+        },
+        mode: Mode {
+            set: 2,
+            rate: 0x2b,
+            indicators: 0,
+        },
+        replies,
+        scanning: true,
+        waiting: 0,
+        handover: false,
+        given: 0xfe,
+    }
 }
 
 // What a command does at once. FB to FD clear, and give the type with their value.
-fn obey(d: Dock, byte: u8) -> Dock
-    ensures { λ r. ⌜ r ≡ obeyed byte d ⌝ }
+fn obey(
+    closed: &mut [u8; 18],
+    counts: &mut [u8; 144],
+    held: &mut [u8; 144],
+    types: &mut [u8; 105],
+    r: Rest,
+    byte: u8,
+) -> Rest
+    ensures { λ e. ⌜ ((map : List ℕ) → dockWith map (now (closed .exit)) (now (counts .exit)) (now (held .exit)) (now (types .exit)) e ≡ obeyed byte (dockWith map (now (closed .entry)) (now (counts .entry)) (now (held .entry)) (now (types .entry)) r)) ⌝ }
 {
     match byte {
-        0xf0 => ready_for_set(d),
-        0xf4 => enable(d),
-        0xf5 => disable(d),
-        0xf6 => set_default(d),
-        0xf7..=0xfa => set_all_types(d, byte - 0xf7),
-        0xfb..=0xfd => clear(d),
-        0xff => reset(d),
-        _ => d,
+        0xf0 => ready_for_set(r),
+        0xf4 => enable(r),
+        0xf5 => disable(types, r),
+        0xf6 => set_default(types, r),
+        0xf7..=0xfa => set_all_types(types, r, byte - 0xf7),
+        0xfb..=0xfd => clear(r),
+        0xff => reset(closed, counts, held, types, r),
+        _ => r,
     }
 }
 
 // A command: it is obeyed and answered, and waits if it takes a value.
-pub fn command(d: Dock, byte: u8) -> Dock
-    ensures { λ r. ⌜ r ≡ commanded byte d ⌝ }
+pub fn command(
+    closed: &mut [u8; 18],
+    counts: &mut [u8; 144],
+    held: &mut [u8; 144],
+    types: &mut [u8; 105],
+    r: Rest,
+    byte: u8,
+) -> Rest
+    ensures { λ e. ⌜ ((map : List ℕ) → dockWith map (now (closed .exit)) (now (counts .exit)) (now (held .exit)) (now (types .exit)) e ≡ commanded byte (dockWith map (now (closed .entry)) (now (counts .entry)) (now (held .entry)) (now (types .entry)) r)) ⌝ }
 {
-    let mut e = obey(d, byte);
+    let mut e = obey(closed, counts, held, types, r, byte);
     e.replies = reply_to(byte);
     e.waiting = 0;
     if record::range::takes_value(byte) {

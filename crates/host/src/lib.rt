@@ -1,7 +1,9 @@
-// What the host's bytes do (docs/RULES.md, section 11).
-use record::Dock;
+// What the host's bytes do (docs/RULES.md, section 11). In place: the arrays are lent, and only the rest of the record is passed.
+use record::Rest;
 ghost use mathlib.Core.Path.{_≡_};
-ghost use mathlib.Core.List.{[], _∷_};
+ghost use mathlib.Core.List.{List, [], _∷_};
+ghost use Prim.Native.Nat.{ℕ};
+ghost use Rattle.record.specs.Apart.{dockWith};
 ghost use Rattle.host.specs.Commands.{replying, tookByte};
 
 mod answers; // answers.rt: the bytes that answer a command
@@ -9,23 +11,30 @@ mod commands; // commands.rt: what each command does at once
 mod values; // values.rt: the values that commands wait for
 
 // One reply instead of those before.
-pub fn reply(d: Dock, byte: u8) -> Dock
-    ensures { λ r. ⌜ r ≡ replying (byte ∷ []) d ⌝ }
+pub fn reply(r: Rest, byte: u8) -> Rest
+    ensures { λ e. ⌜ ((map closed counts held types : List ℕ) → dockWith map closed counts held types e ≡ replying (byte ∷ []) (dockWith map closed counts held types r)) ⌝ }
 {
-    let mut e = d;
+    let mut e = r;
     e.replies = answers::one(byte);
     e
 }
 
 // A byte from the host: FE has the last byte sent again, ED to FF are commands, and a byte below them is a value.
-pub fn take(d: Dock, byte: u8) -> Dock
-    ensures { λ r. ⌜ r ≡ tookByte byte d ⌝ }
+pub fn take(
+    closed: &mut [u8; 18],
+    counts: &mut [u8; 144],
+    held: &mut [u8; 144],
+    types: &mut [u8; 105],
+    r: Rest,
+    byte: u8,
+) -> Rest
+    ensures { λ e. ⌜ ((map : List ℕ) → dockWith map (now (closed .exit)) (now (counts .exit)) (now (held .exit)) (now (types .exit)) e ≡ tookByte byte (dockWith map (now (closed .entry)) (now (counts .entry)) (now (held .entry)) (now (types .entry)) r)) ⌝ }
 {
     if byte == 0xfe {
-        return reply(d, d.given);
+        return reply(r, r.given);
     }
     if byte < 0xed {
-        return values::give(d, byte);
+        return values::give(types, r, byte);
     }
-    commands::command(d, byte)
+    commands::command(closed, counts, held, types, r, byte)
 }

@@ -1,8 +1,11 @@
 // The values that commands wait for.
 use crate::reply;
-use record::Dock;
+use record::Rest;
 ghost use mathlib.Core.Path.{_≡_};
 ghost use mathlib.Core.Bool.{true};
+ghost use mathlib.Core.List.{List};
+ghost use Prim.Native.Nat.{ℕ};
+ghost use Rattle.record.specs.Apart.{dockWith};
 ghost use Rattle.host.specs.Commands.{rightValue, valued, given};
 
 // A value that a command takes: indicators, a set, a rate, or the set 3 code of a key. No other byte takes one.
@@ -21,13 +24,13 @@ fn is_right(command: u8, value: u8) -> bool
     }
 }
 
-// What such a value does.
-fn apply(d: Dock, command: u8, value: u8) -> Dock
+// What such a value does. The types are lent.
+fn apply(types: &mut [u8; 105], r: Rest, command: u8, value: u8) -> Rest
     requires { ⌜ rightValue command value ≡ true ⌝ }
-    ensures { λ r. ⌜ r ≡ valued command value d ⌝ }
+    ensures { λ e. ⌜ ((map closed counts held : List ℕ) → dockWith map closed counts held (now (types .exit)) e ≡ valued command value (dockWith map closed counts held (now (types .entry)) r)) ⌝ }
 {
-    let mut m = d.mode;
-    let mut e = d;
+    let mut m = r.mode;
+    let mut e = r;
     if command == 0xed {
         m.indicators = value;
         e.mode = m;
@@ -44,19 +47,19 @@ fn apply(d: Dock, command: u8, value: u8) -> Dock
         return e;
     }
     let key = lookup::in_set3(value) as usize;
-    e.types[key] = command - 0xfb;
+    types[key] = command - 0xfb;
     e
 }
 
 // A byte below ED: the value of the command that waits, if it is right for it.
-pub fn give(d: Dock, byte: u8) -> Dock
-    ensures { λ r. ⌜ r ≡ given byte d ⌝ }
+pub fn give(types: &mut [u8; 105], r: Rest, byte: u8) -> Rest
+    ensures { λ e. ⌜ ((map closed counts held : List ℕ) → dockWith map closed counts held (now (types .exit)) e ≡ given byte (dockWith map closed counts held (now (types .entry)) r)) ⌝ }
 {
-    let command = d.waiting;
+    let command = r.waiting;
     if !is_right(command, byte) {
-        return reply(d, 0xfe);
+        return reply(r, 0xfe);
     }
-    let mut e = apply(d, command, byte);
+    let mut e = apply(types, r, command, byte);
     e.waiting = 0;
     reply(e, 0xfa)
 }

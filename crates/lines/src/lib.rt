@@ -103,6 +103,29 @@ fn read_line(map: &[u8; 144], held: &mut [u8; 144], types: &[u8; 105], r: Rest) 
     }
 }
 
+// 3 digits: a host frame.
+fn frame_line(
+    map: &[u8; 144],
+    closed: &mut [u8; 18],
+    counts: &mut [u8; 144],
+    held: &mut [u8; 144],
+    types: &mut [u8; 105],
+    r: Rest,
+    line: &[u8],
+) -> Walked
+    requires { ⌜ (length (now map) ≡ 144) × (length (now line) ≡ 3) × (allDigits (now line) ≡ true) ⌝ }
+    ensures { λ x. ⌜ walkedWith (now (map .entry)) (now (closed .exit)) (now (counts .exit)) (now (held .exit)) (now (types .exit)) x ≡ steppedBy (frameOf (dockWith (now (map .entry)) (now (closed .entry)) (now (counts .entry)) (now (held .entry)) (now (types .entry)) r) (frameIn (now (line .entry)))) ⌝ }
+{
+    let number = text::digits::frame_in(line);
+    let x = dock::frame::frame_in_place(map, closed, counts, held, types, r, number);
+    let rest = x.rest;
+    let answer = x.answer;
+    Walked {
+        rest,
+        printed: answer_prints(answer),
+    }
+}
+
 // A record laid out in the arrays that are lent, and its rest.
 fn lay_out(
     map: &mut [u8; 144],
@@ -127,29 +150,6 @@ fn lay_out(
     *held = h;
     *types = t;
     rest_of(d)
-}
-
-// 3 digits: a host frame.
-fn frame_line(
-    map: &mut [u8; 144],
-    closed: &mut [u8; 18],
-    counts: &mut [u8; 144],
-    held: &mut [u8; 144],
-    types: &mut [u8; 105],
-    r: Rest,
-    line: &[u8],
-) -> Walked
-    requires { ⌜ (length (now line) ≡ 3) × (allDigits (now line) ≡ true) ⌝ }
-    ensures { λ x. ⌜ walkedWith (now (map .exit)) (now (closed .exit)) (now (counts .exit)) (now (held .exit)) (now (types .exit)) x ≡ steppedBy (frameOf (dockWith (now (map .entry)) (now (closed .entry)) (now (counts .entry)) (now (held .entry)) (now (types .entry)) r) (frameIn (now (line .entry)))) ⌝ }
-{
-    let d = dock_with(*map, *closed, *counts, *held, *types, r);
-    let x = dock::frame::frame(d, text::digits::frame_in(line));
-    let after = x.dock;
-    let answer = x.answer;
-    Walked {
-        rest: lay_out(map, closed, counts, held, types, after),
-        printed: answer_prints(answer),
-    }
 }
 
 // 288 digits: a map to swap to.

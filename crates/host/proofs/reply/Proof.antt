@@ -7,7 +7,7 @@ one-requires : tie.Need-one-requires
 one-requires c κs = search needs
 
 returns : tie.Need-returns
-returns c = rw (c .one .ensures)
+returns c = λ map closed counts held types. rw (c .one .ensures)
 
 pub reply-spec : {M : Type 1} → statement M
 reply-spec = tie.close (tie.spec one-requires returns)

@@ -1,6 +1,7 @@
 -- `host::take` meets its contract: its three ways are those of the definition. Assumes nothing.
 use mathlib.Core.Path.{_∙_}
 use borrow.Author.Needs.{needs}
+use Rattle.record.specs.Apart.{dockWith}
 use Rattle.host.proofs.Rows.{took-resend, took-value, took-command}
 use Rattle.host.proofs.take.Statement.{statement}
 use Rattle.host.proofs.take.Tie as tie
@@ -9,19 +10,29 @@ reply-requires : tie.Need-reply-requires
 reply-requires c κs = search needs
 
 returns : tie.Need-returns
-returns c = c .reply .ensures ∙ took-resend _ _ (c .before .if1 .taken)
+returns c = λ map.
+    let a = c .before .before .args in
+    c .reply .ensures map (a .closed .now) (a .counts .now) (a .held .now) (a .types .now)
+    ∙ took-resend (a .byte) (dockWith map (a .closed .now) (a .counts .now) (a .held .now) (a .types .now) (a .r)) (c .before .if1 .taken)
 
 give-requires : tie.Need-give-requires
 give-requires c κs = search needs
 
 returns-2 : tie.Need-returns-2
-returns-2 c = c .give .ensures ∙ took-value _ _ (c .before .if2 .taken)
+returns-2 c = λ map.
+    let small = c .before .before in
+    let a = small .before .before .args in
+    c .give .ensures map (a .closed .now) (a .counts .now) (a .held .now)
+    ∙ took-value (a .byte) (dockWith map (a .closed .now) (a .counts .now) (a .held .now) (a .types .now) (a .r)) (small .if2 .taken)
 
 command-requires : tie.Need-command-requires
 command-requires c κs = search needs
 
 returns-3 : tie.Need-returns-3
-returns-3 c = c .command .ensures ∙ took-command _ _ (c .before .if2 .left) (c .before .before .if1 .left)
+returns-3 c = λ map.
+    let large = c .before .before .before .before .before in
+    let a = large .before .before .args in
+    c .command .ensures map ∙ took-command (a .byte) (dockWith map (a .closed .now) (a .counts .now) (a .held .now) (a .types .now) (a .r)) (large .if2 .left) (large .before .if1 .left)
 
 pub take-spec : {M : Type 1} → statement M
 take-spec =

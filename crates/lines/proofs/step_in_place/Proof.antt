@@ -34,7 +34,9 @@ enum-told-3 c = search needs
 frame-line-requires : tie.Need-frame-line-requires
 frame-line-requires c κs =
     let told = c .before .before .before .before .before in
-    frame-is (told .before .before .before .before .args .line .now) (sym (told .before .before .kind-of .ensures) ∙ told .enum-told3 .given .1)
+    let s = told .before .before .before .before in
+    let is = frame-is (s .args .line .now) (sym (told .before .before .kind-of .ensures) ∙ told .enum-told3 .given .1) in
+    (s .pre .0, is .0, is .1)
 
 enum-told-4 : tie.Need-enum-told-4
 enum-told-4 c = search needs

@@ -1,45 +1,45 @@
--- `dock::closing::close` meets its contract: keys are handed over only while a handover is open. Assumes nothing.
+-- `dock::closing::close` meets its contract: keys are handed over only while a handover is open, in place. Assumes nothing.
 use mathlib.Core.Path.{_≡_, ap, _∙_}
 use borrow.Author.Needs.{needs}
 use borrow.Author.Tests.{not-true, not-false}
-use Rattle.record.specs.declared.Keys.{Keys}
-use Rattle.record.specs.declared.Outgoing.{Outgoing}
-use Rattle.record.specs.Apart.{keysWith}
-use Rattle.record.specs.Parts.{withKeys, withHandover}
-use Rattle.record.specs.Range.{goodKeys}
-use Rattle.record.proofs.Ranges.{in-range-keys, in-range-mode}
-use Rattle.keying.specs.Handover.{handedWith, handedOver}
-use Rattle.dock.proofs.Handing.{nothing-to-hand-over, handed-over-on}
+use Rattle.record.specs.declared.Rest.{Rest}
+use Rattle.record.specs.Apart.{restOf, dockWith}
+use Rattle.dock.specs.Closing.{closing, restInRange}
+use Rattle.dock.proofs.InRange.{rest-in-range}
+use Rattle.dock.proofs.Handing.{nothing-to-hand-over}
 use Rattle.dock.proofs.closing.close.Statement.{statement}
 use Rattle.dock.proofs.closing.close.Tie as tie
 
 returns : tie.Need-returns
 returns c = nothing-to-hand-over _ (not-true _ (c .if1 .taken))
 
-outgoing-of-requires : tie.Need-outgoing-of-requires
-outgoing-of-requires c κs = search needs
+rest-of-requires : tie.Need-rest-of-requires
+rest-of-requires c κs = search needs
 
-hand-over-requires : tie.Need-hand-over-requires
-hand-over-requires c κs =
-    let o = c .before .before .before .before .before in
-    let s = o .before .before .before in
-    let d = s .args .t1 in
-    (ap (λ (x : Outgoing). goodKeys (keysWith (d .keys .held) x)) (o .outgoing-of .ensures) ∙ in-range-keys d (s .pre), in-range-mode d (s .pre))
+go-on-requires : tie.Need-go-on-requires
+go-on-requires c κs =
+    let rest = c .before .before in
+    let going = rest .before .before .before .before .before .before .before .before in
+    let s = going .before .before in
+    let d = s .args .d in (
+      ap (λ (r : Rest). restInRange (d .keys .held) (d .types) r) (rest .rest-of .ensures)
+          ∙ rest-in-range (d .map) (d .contacts .closed) (d .contacts .counts) (d .keys .held) (d .types) (restOf d) (s .pre),
+      ap (λ (r : Rest). r .handover) (rest .rest-of .ensures) ∙ not-false _ (going .if1 .left),
+    )
 
-keys-with-requires : tie.Need-keys-with-requires
-keys-with-requires c κs = search needs
+dock-with-requires : tie.Need-dock-with-requires
+dock-with-requires c κs = search needs
 
 returns-2 : tie.Need-returns-2
 returns-2 c =
-    let h = c .before .before .hand-over in
-    let o = c .before .before .before .before .before .before .before .before in
-    let going = o .before .before in
-    let d = going .before .args .t1 in
-    ap (λ (k : Keys). withHandover (withKeys d k) (h .result .unfinished)) (c .keys-with .ensures)
-    ∙ handed-over-on d (handedWith (h .last .0) (h .result)) (not-false _ (going .if1 .left))
-    (h .ensures ∙ ap (λ (x : Outgoing). handedOver (keysWith (d .keys .held) x) (d .mode) (d .types)) (o .outgoing-of .ensures))
+    let x = c .before .go-on in
+    let rest = c .before .before .before .before in
+    let d = rest .before .before .before .before .before .before .before .before .before .before .args .d in
+    c .dock-with .ensures
+    ∙ x .ensures (d .map) (d .contacts .closed) (d .contacts .counts)
+    ∙ ap (λ (r : Rest). closing (dockWith (d .map) (d .contacts .closed) (d .contacts .counts) (d .keys .held) (d .types) r)) (rest .rest-of .ensures)
 
 pub close-spec : {M : Type 1} → statement M
 close-spec =
     tie.close
-    (tie.spec returns outgoing-of-requires hand-over-requires keys-with-requires returns-2)
+    (tie.spec returns rest-of-requires go-on-requires dock-with-requires returns-2)

@@ -7,7 +7,7 @@ empty-requires : tie.Need-empty-requires
 empty-requires c κs = search needs
 
 returns : tie.Need-returns
-returns c = rw (c .empty .ensures)
+returns c = λ map closed counts held types. rw (c .empty .ensures)
 
 pub clear-spec : {M : Type 1} → statement M
 clear-spec = tie.close (tie.spec empty-requires returns)

@@ -1,5 +1,6 @@
 -- `host::commands::command` meets its contract: its steps are those of the definition. Assumes nothing.
 use borrow.Author.Needs.{needs}
+use Rattle.record.specs.Apart.{dockWith}
 use Rattle.host.proofs.Rows.{command-waits, command-done}
 use Rattle.host.proofs.commands.command.Statement.{statement}
 use Rattle.host.proofs.commands.command.Tie as tie
@@ -14,14 +15,18 @@ takes-value-requires : tie.Need-takes-value-requires
 takes-value-requires c κs = search needs
 
 returns : tie.Need-returns
-returns c =
+returns c = λ map.
     let l = c .before in
-    command-waits _ _ _ _ (l .before .before .obey .ensures) (l .before .reply-to .ensures) _ (l .takes-value .ensures) (c .if1 .taken)
+    let o = l .before .before in
+    let a = o .before .before .before .before .before .args in
+    command-waits (a .byte) (dockWith map (a .closed .now) (a .counts .now) (a .held .now) (a .types .now) (a .r)) _ _ (o .obey .ensures map) (l .before .reply-to .ensures) _ (l .takes-value .ensures) (c .if1 .taken)
 
 returns-2 : tie.Need-returns-2
-returns-2 c =
+returns-2 c = λ map.
     let l = c .before in
-    command-done _ _ _ _ (l .before .before .obey .ensures) (l .before .reply-to .ensures) _ (l .takes-value .ensures) (c .if1 .left)
+    let o = l .before .before in
+    let a = o .before .before .before .before .before .args in
+    command-done (a .byte) (dockWith map (a .closed .now) (a .counts .now) (a .held .now) (a .types .now) (a .r)) _ _ (o .obey .ensures map) (l .before .reply-to .ensures) _ (l .takes-value .ensures) (c .if1 .left)
 
 pub command-spec : {M : Type 1} → statement M
 command-spec =

@@ -1,5 +1,9 @@
 -- `host::commands::disable` meets its contract: it sets the defaults, and one field more. Assumes nothing.
+use mathlib.Core.Path.{_≡_, ap}
+use mathlib.Core.Bool.{false}
 use borrow.Author.Needs.{needs}
+use Rattle.record.specs.declared.Dock.{Dock}
+use Rattle.record.specs.Parts.{withScanning}
 use Rattle.host.proofs.commands.disable.Statement.{statement}
 use Rattle.host.proofs.commands.disable.Tie as tie
 
@@ -7,7 +11,7 @@ set-default-requires : tie.Need-set-default-requires
 set-default-requires c κs = search needs
 
 returns : tie.Need-returns
-returns c = rw (c .set-default .ensures)
+returns c = λ map closed counts held. ap (λ (d : Dock). withScanning d false) (c .set-default .ensures map closed counts held)
 
 pub disable-spec : {M : Type 1} → statement M
 disable-spec = tie.close (tie.spec set-default-requires returns)

@@ -1,16 +1,17 @@
 -- `host::commands::enable` meets its contract: its steps are those of the definition. Assumes nothing.
+use mathlib.Core.Path.{_≡_, ap}
+use mathlib.Core.Bool.{true}
 use borrow.Author.Needs.{needs}
+use Rattle.record.specs.declared.Dock.{Dock}
+use Rattle.record.specs.Parts.{withScanning}
 use Rattle.host.proofs.commands.enable.Statement.{statement}
 use Rattle.host.proofs.commands.enable.Tie as tie
 
-clear-requires : tie.Need-clear-requires
-clear-requires c κs = search needs
-
-unrepeat-requires : tie.Need-unrepeat-requires
-unrepeat-requires c κs = search needs
+quieten-requires : tie.Need-quieten-requires
+quieten-requires c κs = search needs
 
 returns : tie.Need-returns
-returns c = rw (c .unrepeat .ensures, c .before .clear .ensures)
+returns c = λ map closed counts held types. ap (λ (d : Dock). withScanning d true) (c .quieten .ensures map closed counts held types)
 
 pub enable-spec : {M : Type 1} → statement M
-enable-spec = tie.close (tie.spec clear-requires unrepeat-requires returns)
+enable-spec = tie.close (tie.spec quieten-requires returns)

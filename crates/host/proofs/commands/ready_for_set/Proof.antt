@@ -1,16 +1,19 @@
 -- `host::commands::ready_for_set` meets its contract: its steps are those of the definition. Assumes nothing.
+use mathlib.Core.Path.{_≡_, ap}
 use borrow.Author.Needs.{needs}
+use Rattle.record.specs.declared.Dock.{Dock}
+use Rattle.record.specs.Parts.{withMode}
 use Rattle.host.proofs.commands.ready_for_set.Statement.{statement}
 use Rattle.host.proofs.commands.ready_for_set.Tie as tie
 
-clear-requires : tie.Need-clear-requires
-clear-requires c κs = search needs
-
-unrepeat-requires : tie.Need-unrepeat-requires
-unrepeat-requires c κs = search needs
+quieten-requires : tie.Need-quieten-requires
+quieten-requires c κs = search needs
 
 returns : tie.Need-returns
-returns c = rw (c .unrepeat .ensures, c .before .clear .ensures)
+returns c = λ map closed counts held types.
+    let m = c .before .before .args .r .mode in
+    ap (λ (d : Dock). withMode d (record { set = m .set; rate = 0x2b; indicators = m .indicators }))
+    (c .quieten .ensures map closed counts held types)
 
 pub ready-for-set-spec : {M : Type 1} → statement M
-ready-for-set-spec = tie.close (tie.spec clear-requires unrepeat-requires returns)
+ready-for-set-spec = tie.close (tie.spec quieten-requires returns)

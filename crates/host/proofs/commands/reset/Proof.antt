@@ -1,13 +1,18 @@
 -- `host::commands::reset` meets its contract: it is the fresh record of the definition. Assumes nothing.
 use borrow.Author.Needs.{needs}
+use Rattle.record.specs.Power.{freshWith}
 use Rattle.host.proofs.commands.reset.Statement.{statement}
 use Rattle.host.proofs.commands.reset.Tie as tie
 
-fresh-requires : tie.Need-fresh-requires
-fresh-requires c κs = search needs
+default-types-requires : tie.Need-default-types-requires
+default-types-requires c κs = search needs
+
+empty-requires : tie.Need-empty-requires
+empty-requires c κs = search needs
 
 returns : tie.Need-returns
-returns c = c .fresh .ensures
+unfolding freshWith
+returns c = λ map. rw (c .empty .ensures, c .before .before .default-types .ensures)
 
 pub reset-spec : {M : Type 1} → statement M
-reset-spec = tie.close (tie.spec fresh-requires returns)
+reset-spec = tie.close (tie.spec default-types-requires empty-requires returns)

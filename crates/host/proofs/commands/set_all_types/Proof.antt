@@ -1,5 +1,9 @@
 -- `host::commands::set_all_types` meets its contract: its steps are those of the definition. Assumes nothing.
+use mathlib.Core.Path.{_≡_, ap}
+use lib.ListN.{replicate}
 use borrow.Author.Needs.{needs}
+use Rattle.record.specs.declared.Dock.{Dock}
+use Rattle.record.specs.Parts.{withTypes}
 use Rattle.host.proofs.commands.set_all_types.Statement.{statement}
 use Rattle.host.proofs.commands.set_all_types.Tie as tie
 
@@ -7,7 +11,9 @@ clear-requires : tie.Need-clear-requires
 clear-requires c κs = search needs
 
 returns : tie.Need-returns
-returns c = rw (c .clear .ensures)
+returns c = λ map closed counts held.
+    let a = c .before .args in
+    ap (λ (d : Dock). withTypes d (replicate 105 (a .kind))) (c .clear .ensures map closed counts held (a .types .now))
 
 pub set-all-types-spec : {M : Type 1} → statement M
 set-all-types-spec = tie.close (tie.spec clear-requires returns)

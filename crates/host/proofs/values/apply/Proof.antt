@@ -1,6 +1,7 @@
 -- `host::values::apply` meets its contract: a right value of the last row has a command and a key that fit. Assumes nothing.
 use native.Mathlib.Omega.{arith}
 use borrow.Author.Needs.{needs}
+use Rattle.record.specs.Apart.{dockWith}
 use Rattle.host.specs.Commands.{valued}
 use Rattle.host.proofs.Rows.{valued-type, right-command, right-key}
 use Rattle.host.proofs.values.apply.Statement.{statement}
@@ -8,15 +9,15 @@ use Rattle.host.proofs.values.apply.Tie as tie
 
 returns : tie.Need-returns
 unfolding valued
-returns c = rw (c .if1 .taken)
+returns c = λ map closed counts held. rw (c .if1 .taken)
 
 returns-2 : tie.Need-returns-2
 unfolding valued
-returns-2 c = rw (c .if2 .taken)
+returns-2 c = λ map closed counts held. rw (c .if2 .taken)
 
 returns-3 : tie.Need-returns-3
 unfolding valued
-returns-3 c = rw (c .if3 .taken)
+returns-3 c = λ map closed counts held. rw (c .if3 .taken)
 
 in-set3-requires : tie.Need-in-set3-requires
 in-set3-requires c κs = search needs
@@ -24,22 +25,23 @@ in-set3-requires c κs = search needs
 cast-key : tie.Need-cast-key
 cast-key c = search needs
 
-sub-e : tie.Need-sub-e
-sub-e c =
+sub-types : tie.Need-sub-types
+sub-types c =
     let l = c .before in
     let command = right-command _ _ (l .before .before .if1 .left) (l .before .if2 .left) (l .if3 .left) (l .before .before .before .before .pre) in
     omega arith
 
-element-write-e : tie.Need-element-write-e
-element-write-e c =
+element-write-types : tie.Need-element-write-types
+element-write-types c =
     let l = c .before in
     let key = right-key _ _ (l .before .before .if1 .left) (l .before .if2 .left) (l .if3 .left) (l .before .before .before .before .pre) in
     omega arith
 
 returns-4 : tie.Need-returns-4
-returns-4 c =
+returns-4 c = λ map closed counts held.
     let l = c .before in
-    valued-type _ _ (l .before .before .if1 .left) (l .before .if2 .left) (l .if3 .left) _ _ (c .in-set3 .ensures)
+    let a = l .before .before .before .before .args in
+    valued-type _ _ (l .before .before .if1 .left) (l .before .if2 .left) (l .if3 .left) (dockWith map closed counts held (a .types .now) (a .r)) _ (c .in-set3 .ensures)
 
 pub apply-spec : {M : Type 1} → statement M
 apply-spec =
@@ -50,6 +52,6 @@ apply-spec =
     returns-3
     in-set3-requires
     cast-key
-    sub-e
-    element-write-e
+    sub-types
+    element-write-types
     returns-4)

@@ -2,6 +2,7 @@
 use mathlib.Core.Path.{sym, _∙_}
 use borrow.Author.Tests.{not-true, not-false}
 use borrow.Author.Needs.{needs}
+use Rattle.record.specs.Apart.{dockWith}
 use Rattle.host.proofs.Rows.{given-wrong, given-right}
 use Rattle.host.proofs.values.give.Statement.{statement}
 use Rattle.host.proofs.values.give.Tie as tie
@@ -13,18 +14,23 @@ reply-requires : tie.Need-reply-requires
 reply-requires c κs = search needs
 
 returns : tie.Need-returns
-returns c = c .reply .ensures ∙ given-wrong _ _ _ (c .before .before .is-right .ensures) (not-true _ (c .before .if1 .taken))
+returns c = λ map closed counts held.
+    let a = c .before .before .before .args in
+    c .reply .ensures map closed counts held (a .types .now)
+    ∙ given-wrong (a .byte) (dockWith map closed counts held (a .types .now) (a .r)) _ (c .before .before .is-right .ensures) (not-true _ (c .before .if1 .taken))
 
 apply-requires : tie.Need-apply-requires
-apply-requires c κs = sym (c .before .is-right .ensures) ∙ not-false _ (c .if1 .left)
+apply-requires c κs = sym (c .before .before .is-right .ensures) ∙ not-false _ (c .before .if1 .left)
 
 reply-requires-2 : tie.Need-reply-requires-2
 reply-requires-2 c κs = search needs
 
 returns-2 : tie.Need-returns-2
-returns-2 c =
-    let l = c .before .before in
-    c .reply2 .ensures ∙ given-right _ _ _ (l .before .is-right .ensures) (not-false _ (l .if1 .left)) _ (c .before .apply .ensures)
+returns-2 c = λ map closed counts held.
+    let l = c .before .before .before in
+    let a = l .before .before .args in
+    c .reply2 .ensures map closed counts held _
+    ∙ given-right (a .byte) (dockWith map closed counts held (a .types .now) (a .r)) _ (l .before .is-right .ensures) (not-false _ (l .if1 .left)) _ (c .before .apply .ensures map closed counts held)
 
 pub give-spec : {M : Type 1} → statement M
 give-spec =
