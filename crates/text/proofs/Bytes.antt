@@ -46,27 +46,33 @@ bytes-up-to-255 line i (suc n) d =
 pub bytes-below-256 : (line : List ℕ) (i n k : ℕ) → allDigits line ≡ true → getD (bytesFrom line i n) k 0 < 256
 bytes-below-256 line i n k d = omega (arith, up-to-at 255 (bytesFrom line i n) k (bytes-up-to-255 line i n d))
 
--- The loop: an array of n zeros with its first i entries replaced by the line's first i bytes.
+-- An array of n zeros with its first i entries replaced by the line's first i bytes.
 unfoldable pub bytesUpTo : ℕ → List ℕ → ℕ → List ℕ
 bytesUpTo n line i = paste (replicate n 0) 0 (bytesFrom line 0 n) i
 
-pub bytes-none : (n : ℕ) (line : List ℕ) → replicate n 0 ≡ bytesUpTo n line 0
+-- The invariant of a loop that fills an array of n entries: it has come as far as i.
+abbrev pub FilledUpTo : ℕ → List ℕ → List ℕ → ℕ → Type 0
+FilledUpTo n line array i = (i ≤ n) × (array ≡ bytesUpTo n line i)
+
+pub filled-none : (n : ℕ) (line : List ℕ) → FilledUpTo n line (replicate n 0) 0
 unfolding bytesUpTo
-bytes-none n line = paste-zero (replicate n 0) 0 (bytesFrom line 0 n)
+filled-none n line = (omega arith, paste-zero (replicate n 0) 0 (bytesFrom line 0 n))
 
-module _ (n : ℕ) (line : List ℕ) (i : ℕ) (array : List ℕ) (k : array ≡ bytesUpTo n line i) where
-  pub bytes-more : i < n → (byte : ℕ) → byte ≡ byteAt line i → set array i byte ≡ bytesUpTo n line (i + 1)
+module _ (n : ℕ) (line array : List ℕ) (i : ℕ) (f : FilledUpTo n line array i) where
+  pub filled-more : i < n → (byte : ℕ) → byte ≡ byteAt line i → FilledUpTo n line (set array i byte) (i + 1)
   unfolding bytesUpTo
-  bytes-more h byte e =
-      rw (k, e)
-      (ap₂ (λ (j x : ℕ). set (bytesUpTo n line i) j x) (sym (zero-add i)) (sym (bytes-at line n i h))
-      ∙ paste-suc (replicate n 0) 0 (bytesFrom line 0 n) i 0 (omega (arith, length-replicate {A = ℕ} n 0)) (omega (arith, length-bytes line 0 n))
-      ∙ ap (bytesUpTo n line) (sym (add-one i)))
+  filled-more h byte e = (
+    omega arith,
+    rw (f .1, e)
+        (ap₂ (λ (j x : ℕ). set (bytesUpTo n line i) j x) (sym (zero-add i)) (sym (bytes-at line n i h))
+        ∙ paste-suc (replicate n 0) 0 (bytesFrom line 0 n) i 0 (omega (arith, length-replicate {A = ℕ} n 0)) (omega (arith, length-bytes line 0 n))
+        ∙ ap (bytesUpTo n line) (sym (add-one i))),
+  )
 
-  pub bytes-all : i ≤ n → n ≤ i → array ≡ bytesFrom line 0 n
+  pub filled-all : n ≤ i → array ≡ bytesFrom line 0 n
   unfolding bytesUpTo
-  bytes-all a b =
-      k ∙ ap (bytesUpTo n line) (le-antisymm a b)
+  filled-all h =
+      f .1 ∙ ap (bytesUpTo n line) (le-antisymm (f .0) h)
       ∙ rw (
         take-all n (bytesFrom line 0 n) (omega (arith, length-bytes line 0 n)),
         drop-of-length-le {A = ℕ} (replicate n 0) {i = 0 + n} (omega (arith, length-replicate {A = ℕ} n 0)),

@@ -1,17 +1,19 @@
--- Where a line ends: the search for the first newline, and the test that none stands among some characters. Assumes nothing.
+-- Where a line ends: the search for the first newline, the test that none stands among some characters, and the test of a length.
+-- Assumes nothing.
 use mathlib.Core.Path.{_≡_, refl, sym, ap, _∙_}
-use mathlib.Core.Bool.{Bool, true, false}
+use mathlib.Core.Bool.{Bool, true, false, not}
 use mathlib.Core.List.{List, [], _∷_}
 use Prim.Native.Nat.{ℕ, zero, suc, _+_, _≤_, _<_}
 use native.Mathlib.Nat.{add-zero, add-suc, le-antisymm}
 use native.Mathlib.Numerals.{add-one}
 use native.Mathlib.Omega.{arith}
-use borrow.Author.Tests.{eq-eqb, ne-eqb, eqb-false}
-use lib.Dec.{eqb}
-use lib.ListN.{length, getD, drop, length-drop, drop-of-length-le}
+use borrow.Author.Tests.{eq-eqb, ne-eqb, eqb-true, eqb-false, ltb-true, ltb-false, not-true}
+use lib.Dec.{eqb, ltb}
+use lib.ListN.{length, getD, drop, length-drop, drop-of-length-le, List·getD-eq-default}
 use lib.Seq.{drop-cons}
 use Rattle.basics.specs.Choice.{pick, either}
-use Rattle.text.specs.Lines.{newlineAmong, lineLength, lineEnd}
+use Rattle.basics.proofs.Flags.{left-of-both, right-of-both}
+use Rattle.text.specs.Lines.{newlineAmong, endsAfter, lineLength, lineEnd}
 
 line-length-within : (l : List ℕ) → lineLength l ≤ length l
 unfolding lineLength
@@ -101,7 +103,37 @@ among-past text at (suc n) h e =
     second true b f = cc
     second false b f = f
 
--- So it ends at the newline that comes right after them.
-pub line-end-after-none : (text : List ℕ) (at n : ℕ) → at + n < length text → (found : Bool) → found ≡ newlineAmong text at n → found ≡ false
-    → getD text (at + n) 0 ≡ 10 → at + n ≡ lineEnd text at
-line-end-after-none text at n h found k f e = sym (among-past text at n (omega arith) (sym k ∙ f) ∙ line-end-here text (at + n) h e)
+-- The test of a length. The line does not end after n characters where the text has no more,
+module _ (text : List ℕ) (at n : ℕ) where
+  pub ends-past : length text ≤ at + n → false ≡ endsAfter text at n
+  unfolding endsAfter
+  ends-past h = rw (List·getD-eq-default text 0 h)
+
+  -- nor where another character comes next;
+  pub ends-not : (getD text (at + n) 0 ≡ 10 → ⊥) → false ≡ endsAfter text at n
+  unfolding endsAfter
+  ends-not k = rw (ne-eqb (getD text (at + n) 0) 10 k)
+
+  -- and at a newline it does if there is none before.
+  pub ends-newline : getD text (at + n) 0 ≡ 10 → (found : Bool) → found ≡ newlineAmong text at n → not found ≡ endsAfter text at n
+  unfolding endsAfter
+  ends-newline e found k = rw (eq-eqb (getD text (at + n) 0) 10 e, k)
+
+  -- Where the test holds, that is the line's end: the newline is no 0, so it stands in the text.
+  pub ends-there : endsAfter text at n ≡ true → at + n ≡ lineEnd text at
+  unfolding endsAfter
+  ends-there e =
+      sym (among-past text at n (omega (arith, inside)) none ∙ line-end-here text (at + n) inside newline)
+    where
+      newline : getD text (at + n) 0 ≡ 10
+      newline = eqb-true _ _ (left-of-both (eqb (getD text (at + n) 0) 10) (not (newlineAmong text at n)) e)
+
+      none : newlineAmong text at n ≡ false
+      none = not-true (newlineAmong text at n) (right-of-both (eqb (getD text (at + n) 0) 10) (not (newlineAmong text at n)) e)
+
+      inside : at + n < length text
+      inside = go (ltb (at + n) (length text)) refl
+        where
+          go : (t : Bool) → ltb (at + n) (length text) ≡ t → at + n < length text
+          go true f = ltb-true _ _ f
+          go false f = absurd (omega (arith, sym newline ∙ List·getD-eq-default text 0 (ltb-false _ _ f)))

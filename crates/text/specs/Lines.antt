@@ -1,10 +1,10 @@
 -- The kinds of line (docs/RULES.md, section 12). Assumes nothing.
 use Prim.Native.Nat.{ℕ, zero, suc, _+_}
-use mathlib.Core.Bool.{Bool, false}
+use mathlib.Core.Bool.{Bool, false, not}
 use mathlib.Core.List.{List, [], _∷_}
 use lib.Dec.{eqb}
 use lib.ListN.{length, getD, drop}
-use Rattle.basics.specs.Choice.{pick, either}
+use Rattle.basics.specs.Choice.{pick, both, either}
 use Rattle.text.specs.declared.Kind.{Kind}
 use Rattle.text.specs.declared.Kind.the-variants.{Read, Frame, Scan, Map, Malformed}
 use Rattle.text.specs.Digits.{allDigits}
@@ -23,6 +23,10 @@ kindOf line =
 unfoldable pub newlineAmong : List ℕ → ℕ → ℕ → Bool
 newlineAmong text at zero = false
 newlineAmong text at (suc n) = either (newlineAmong text at n) (eqb (getD text (at + n) 0) 10)
+
+-- The line at a place ends after n characters: a newline comes next, and none stands among them.
+unfoldable pub endsAfter : List ℕ → ℕ → ℕ → Bool
+endsAfter text at n = both (eqb (getD text (at + n) 0) 10) (not (newlineAmong text at n))
 
 -- The characters before the first newline.
 unfoldable pub lineLength : List ℕ → ℕ

@@ -4,7 +4,7 @@ use crate::digits::all_digits;
 ghost use mathlib.Core.Path.{_≡_};
 ghost use Prim.Native.Nat.{_≤_, _+_};
 ghost use lib.ListN.{length};
-ghost use Rattle.text.specs.Lines.{kindOf, newlineAmong, lineEnd};
+ghost use Rattle.text.specs.Lines.{kindOf, newlineAmong, endsAfter, lineEnd};
 
 // What kind a line is, its newline apart.
 pub fn kind_of(line: &[u8]) -> Kind
@@ -13,17 +13,23 @@ pub fn kind_of(line: &[u8]) -> Kind
     if line.len() == 0 {
         return Kind::Read;
     }
-    if !all_digits(line) {
+    if line.len() == 36 {
+        if all_digits(line) {
+            return Kind::Scan;
+        }
         return Kind::Malformed;
     }
-    if line.len() == 36 {
-        return Kind::Scan;
-    }
     if line.len() == 3 {
-        return Kind::Frame;
+        if all_digits(line) {
+            return Kind::Frame;
+        }
+        return Kind::Malformed;
     }
     if line.len() == 288 {
-        return Kind::Map;
+        if all_digits(line) {
+            return Kind::Map;
+        }
+        return Kind::Malformed;
     }
     Kind::Malformed
 }
@@ -59,17 +65,37 @@ fn searched(text: &[u8], at: usize) -> usize
     i
 }
 
-// The first newline from a place on, or the end of the text. Most lines are scans, so the place where a scan ends is tried first.
+// The line at a place ends after n characters.
+fn ends_after(text: &[u8], at: usize, n: usize) -> bool
+    requires { ⌜ at ≤ length (now text) ⌝ }
+    ensures { λ r. ⌜ r ≡ endsAfter (now (text .entry)) at n ⌝ }
+{
+    if text.len() - at <= n {
+        return false;
+    }
+    if text[at + n] != 10 {
+        return false;
+    }
+    !newline_among(text, at, n)
+}
+
+// The first newline from a place on, or the end of the text. The lengths that lines have are tried first: other lines are searched
+// character by character. 0 comes first, since a read has nothing before its newline, and then 36, since most lines are scans.
 pub fn end_of(text: &[u8], at: usize) -> usize
     requires { ⌜ at ≤ length (now text) ⌝ }
     ensures { λ r. ⌜ r ≡ lineEnd (now (text .entry)) at ⌝ }
 {
-    if 36 < text.len() - at {
-        if text[at + 36] == 10 {
-            if !newline_among(text, at, 36) {
-                return at + 36;
-            }
-        }
+    if ends_after(text, at, 0) {
+        return at;
+    }
+    if ends_after(text, at, 36) {
+        return at + 36;
+    }
+    if ends_after(text, at, 3) {
+        return at + 3;
+    }
+    if ends_after(text, at, 288) {
+        return at + 288;
     }
     searched(text, at)
 }

@@ -1,48 +1,65 @@
--- `text::kinds::end_of` meets its contract: where a newline comes right after 36 characters that are none, the line ends there;
--- else the search says where. Assumes nothing.
-use native.Mathlib.Omega.{arith}
+-- `text::kinds::end_of` meets its contract: where the line ends after so many characters, that is its end; else the search says where.
+-- Assumes nothing.
+use mathlib.Core.Path.{sym, _∙_}
+use native.Mathlib.Nat.{add-zero}
 use borrow.Author.Needs.{needs}
-use borrow.Author.Tests.{not-true}
-use Rattle.text.proofs.Newlines.{line-end-after-none}
+use Rattle.text.proofs.Newlines.{ends-there}
 use Rattle.text.proofs.kinds.end_of.Statement.{statement}
 use Rattle.text.proofs.kinds.end_of.Tie as tie
 
-sub-if1 : tie.Need-sub-if1
-sub-if1 c = search needs
+ends-after-requires : tie.Need-ends-after-requires
+ends-after-requires c κs = search needs
 
-add-if2 : tie.Need-add-if2
-add-if2 c = search needs
+returns : tie.Need-returns
+returns c = sym (add-zero _) ∙ ends-there _ _ 0 (sym (c .before .ends-after .ensures) ∙ c .if1 .taken)
 
-shared-slice-read-if2 : tie.Need-shared-slice-read-if2
-shared-slice-read-if2 c = search needs
-
-newline-among-requires : tie.Need-newline-among-requires
-newline-among-requires c κs = search needs
+ends-after-requires-2 : tie.Need-ends-after-requires-2
+ends-after-requires-2 c κs = search needs
 
 add-result : tie.Need-add-result
 add-result c = search needs
 
-returns : tie.Need-returns
-returns c =
-    let a = c .before .newline-among in
-    let t = c .before .before in
-    line-end-after-none _ _ 36 (omega arith) _ (a .ensures) (not-true (a .result) (c .if3 .taken)) (t .if2 .taken)
+returns-2 : tie.Need-returns-2
+returns-2 c = ends-there _ _ 36 (sym (c .before .ends-after2 .ensures) ∙ c .if2 .taken)
+
+ends-after-requires-3 : tie.Need-ends-after-requires-3
+ends-after-requires-3 c κs = search needs
+
+add-result-2 : tie.Need-add-result-2
+add-result-2 c = search needs
+
+returns-3 : tie.Need-returns-3
+returns-3 c = ends-there _ _ 3 (sym (c .before .ends-after3 .ensures) ∙ c .if3 .taken)
+
+ends-after-requires-4 : tie.Need-ends-after-requires-4
+ends-after-requires-4 c κs = search needs
+
+add-result-3 : tie.Need-add-result-3
+add-result-3 c = search needs
+
+returns-4 : tie.Need-returns-4
+returns-4 c = ends-there _ _ 288 (sym (c .before .ends-after4 .ensures) ∙ c .if4 .taken)
 
 searched-requires : tie.Need-searched-requires
 searched-requires c κs = search needs
 
-returns-2 : tie.Need-returns-2
-returns-2 c = search needs
+returns-5 : tie.Need-returns-5
+returns-5 c = search needs
 
 pub end-of-spec : {M : Type 1} → statement M
 end-of-spec =
     tie.close
     (tie.spec
-    sub-if1
-    add-if2
-    shared-slice-read-if2
-    newline-among-requires
-    add-result
+    ends-after-requires
     returns
+    ends-after-requires-2
+    add-result
+    returns-2
+    ends-after-requires-3
+    add-result-2
+    returns-3
+    ends-after-requires-4
+    add-result-3
+    returns-4
     searched-requires
-    returns-2)
+    returns-5)
