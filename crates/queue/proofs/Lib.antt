@@ -1,6 +1,6 @@
 pub mod Meaning
 pub mod Room
 pub mod Range
-pub mod Cleaning
+pub mod Checking
 pub mod Pushing
 pub mod Popping

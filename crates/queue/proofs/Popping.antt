@@ -6,10 +6,14 @@ use Prim.Native.Nat.{ℕ, zero, suc, _+_, _-_, _≤_, _<_}
 use native.Mathlib.Nat.{le-antisymm}
 use native.Mathlib.Numerals.{add-one}
 use native.Mathlib.Omega.{arith}
+use lib.Dec.{leb}
 use lib.ListN.{length, take, drop, set, getD, replicate, replicate-append-replicate}
+use Rattle.basics.specs.Lists.{allUpTo}
+use Rattle.basics.proofs.Flags.{right-of-both}
+use Rattle.basics.proofs.Limits.{up-to-at}
 use Rattle.queue.specs.declared.Queue.{Queue}
 use Rattle.queue.specs.Queues.{waiting, queueOf, tidy}
-use Rattle.queue.proofs.Meaning.{queue, tidy-short, length-waiting, places-queueOf}
+use Rattle.queue.proofs.Meaning.{queue, tidy-is, tidy-short, length-waiting}
 
 -- The first i places have what stood one place behind them, the others what they had.
 unfoldable pub moved : List ℕ → ℕ → List ℕ
@@ -19,15 +23,15 @@ pub moved-none : (b : List ℕ) → b ≡ moved b 0
 unfolding moved
 moved-none b = refl
 
-one-more : (b : List ℕ) (i : ℕ) → suc i < length b → set (moved b i) i (getD (moved b i) (suc i) 0) ≡ moved b (suc i)
+one-more : (b : List ℕ) (i : ℕ) → suc i < length b → set (moved b i) i (getD b (suc i) 0) ≡ moved b (suc i)
 unfolding moved
 one-more (x ∷ y ∷ b) zero h = refl
 one-more (x ∷ y ∷ b) (suc i) h = ap (λ (r : List ℕ). y ∷ r) (one-more (y ∷ b) i (omega arith))
 one-more [] i h = absurd (omega arith)
 one-more (x ∷ []) i h = absurd (omega arith)
 
-pub moved-more : (b a : List ℕ) (i : ℕ) → a ≡ moved b i → i + 1 < length b → set a i (getD a (i + 1) 0) ≡ moved b (i + 1)
-moved-more b a i e h = rw (e, add-one) (one-more b i (omega arith))
+pub moved-more : (b a : List ℕ) (i byte : ℕ) → a ≡ moved b i → byte ≡ getD b (i + 1) 0 → i + 1 < length b → set a i byte ≡ moved b (i + 1)
+moved-more b a i byte e f h = rw (e, f, add-one) (one-more b i (omega arith))
 
 -- When all places but the last are moved, and the last is 0.
 moved-all : (b : List ℕ) (k : ℕ) → length b ≡ suc k → set (moved b k) k 0 ≡ drop 1 b ++ 0 ∷ []
@@ -49,20 +53,32 @@ without-oldest (x ∷ l) h k =
     let bytes : l ++ replicate (16 - suc (length l)) 0 ++ 0 ∷ [] ≡ l ++ replicate (16 - length l) 0 = rw (append-assoc, zero-more, zeros) in
     ap₂ queue bytes (omega arith)
 
-module _ (q : Queue) (t : tidy q ≡ true) (places : length (q .bytes) ≡ 16) (clean : Queue) (is : clean ≡ queueOf (waiting q)) where
-  pub popped-empty : q .length ≡ 0 → clean ≡ queueOf (drop 1 (waiting q))
+-- Behind the bytes that wait stand zeros.
+none-over : (b : List ℕ) (n i : ℕ) → allUpTo 0 (drop n b) ≡ true → n ≤ i → getD b i 0 ≤ 0
+none-over b zero i e h = up-to-at 0 b i e
+none-over [] (suc n) i e h = omega arith
+none-over (x ∷ b) (suc n) zero e h = absurd (omega arith)
+none-over (x ∷ b) (suc n) (suc i) e h = none-over b n i e (omega arith)
+
+pub zero-past : (q : Queue) → tidy q ≡ true → (i : ℕ) → q .length ≤ i → 0 ≡ getD (q .bytes) i 0
+unfolding tidy
+zero-past q t i h =
+    let clear : allUpTo 0 (drop (q .length) (q .bytes)) ≡ true = right-of-both (leb (q .length) 16) _ t in
+    omega (arith, none-over (q .bytes) (q .length) i clear h)
+
+module _ (q : Queue) (t : tidy q ≡ true) (places : length (q .bytes) ≡ 16) where
+  pub popped-empty : q .length ≡ 0 → q ≡ queueOf (drop 1 (waiting q))
   unfolding waiting
   popped-empty h =
       let none : take (q .length) (q .bytes) ≡ [] = ap (λ (n : ℕ). take n (q .bytes)) h in
-      is ∙ ap queueOf (none ∙ ap (λ (l : List ℕ). drop 1 l) (sym none))
+      tidy-is q places t ∙ ap queueOf (none ∙ ap (λ (l : List ℕ). drop 1 l) (sym none))
 
-  pub popped-by-moving : (b : List ℕ) (i : ℕ) → (q .length ≡ 0 → ⊥) → i ≤ 15 → 15 ≤ i → b ≡ moved (clean .bytes) i
+  pub popped-by-moving : (b : List ℕ) (i : ℕ) → (q .length ≡ 0 → ⊥) → i ≤ 15 → 15 ≤ i → b ≡ moved (q .bytes) i
       → queue (set b 15 0) (q .length - 1) ≡ queueOf (drop 1 (waiting q))
   unfolding queueOf
   popped-by-moving b i some low high e =
       let count : length (waiting q) ≡ q .length = length-waiting q t places in
-      let all : b ≡ moved (clean .bytes) 15 = e ∙ ap (λ (n : ℕ). moved (clean .bytes) n) (le-antisymm low high) in
-      let long : length (clean .bytes) ≡ 16 = ap (λ (x : Queue). length (x .bytes)) is ∙ places-queueOf (waiting q) (omega (arith, tidy-short q t)) in
-      ap (λ (a : List ℕ). queue a (q .length - 1)) (ap (λ (a : List ℕ). set a 15 0) all ∙ moved-all (clean .bytes) 15 long)
-      ∙ ap₂ (λ (x : Queue) (n : ℕ). queue (drop 1 (x .bytes) ++ 0 ∷ []) (n - 1)) is (sym count)
+      let all : b ≡ moved (q .bytes) 15 = e ∙ ap (λ (n : ℕ). moved (q .bytes) n) (le-antisymm low high) in
+      ap (λ (a : List ℕ). queue a (q .length - 1)) (ap (λ (a : List ℕ). set a 15 0) all ∙ moved-all (q .bytes) 15 places)
+      ∙ ap (λ (x : Queue). queue (drop 1 (x .bytes) ++ 0 ∷ []) (x .length - 1)) (tidy-is q places t)
       ∙ without-oldest (waiting q) (omega arith) (omega (arith, tidy-short q t))

@@ -12,7 +12,7 @@ use lib.Seq.{paste, paste-suc, length-take-le, take-append-seam, drop-append-add
 use Rattle.codes.specs.declared.Sequence.{Sequence}
 use Rattle.queue.specs.declared.Queue.{Queue}
 use Rattle.queue.specs.Queues.{waiting, queueOf, tidy, contents, hasRoom, lastReplaced, pushedTo}
-use Rattle.queue.proofs.Meaning.{queue, length-waiting, waiting-queueOf, count-contents}
+use Rattle.queue.proofs.Meaning.{queue, tidy-is, length-waiting, waiting-queueOf, count-contents}
 use Rattle.queue.proofs.Room.{length-lastReplaced, pushed-whole, pushed-nothing}
 
 drop-zeros : (n k : ℕ) → _≡_ {A = List ℕ} (drop k (replicate n 0)) (replicate (n - k) 0)
@@ -48,7 +48,7 @@ marked mark l h =
     let count : length (lastReplaced mark l) ≡ length l = length-lastReplaced mark l in
     ap₂ queue (rw count (set-last mark (length l - 1) l _ (omega arith))) (sym count)
 
-module _ (q : Queue) (t : tidy q ≡ true) (places : length (q .bytes) ≡ 16) (clean : Queue) (is : clean ≡ queueOf (waiting q))
+module _ (q : Queue) (t : tidy q ≡ true) (places : length (q .bytes) ≡ 16)
     (s : Sequence) (short : s .length ≤ 8) (places-s : length (s .bytes) ≡ 8) (mark : ℕ) where
   count : length (waiting q) ≡ q .length
   count = length-waiting q t places
@@ -58,35 +58,33 @@ module _ (q : Queue) (t : tidy q ≡ true) (places : length (q .bytes) ≡ 16) (
 
   -- All bytes are copied, and there was room.
   pub pushed-by-copying : (b : List ℕ) (i : ℕ) → q .length + s .length ≤ 16 → i ≤ s .length → s .length ≤ i
-      → b ≡ paste (clean .bytes) (q .length) (s .bytes) i
+      → b ≡ paste (q .bytes) (q .length) (s .bytes) i
       → queue b (q .length + s .length) ≡ queueOf (pushedTo mark (waiting q) (contents s))
   unfolding queueOf contents
   pushed-by-copying b i h low high e =
       let room : hasRoom (waiting q) (length (contents s)) ≡ true = rw (count, count-s) (le-leb _ _ h) in
-      let all : b ≡ paste (clean .bytes) (q .length) (s .bytes) (s .length) =
-      e ∙ ap (λ (n : ℕ). paste (clean .bytes) (q .length) (s .bytes) n) (le-antisymm low high) in
-      ap (λ (a : List ℕ). queue a (q .length + s .length)) all
-      ∙ ap₂ (λ (x : Queue) (n : ℕ). queue (paste (x .bytes) n (s .bytes) (s .length)) (n + s .length)) is (sym count)
+      ap (λ (a : List ℕ). queue a (q .length + s .length)) (e ∙ ap (λ (n : ℕ). paste (q .bytes) (q .length) (s .bytes) n) (le-antisymm low high))
+      ∙ ap (λ (x : Queue). queue (paste (x .bytes) (x .length) (s .bytes) (s .length)) (x .length + s .length)) (tidy-is q places t)
       ∙ copied (waiting q) (s .bytes) (s .length) (omega (arith, count)) (omega arith)
       ∙ ap queueOf (sym (pushed-whole mark (waiting q) (contents s) room))
 
   -- There is no room, so a byte waits, and the mark is put over the last one.
   pub pushed-by-marking : 16 < q .length + s .length
-      → queue (set (clean .bytes) (q .length - 1) mark) (clean .length) ≡ queueOf (pushedTo mark (waiting q) (contents s))
+      → queue (set (q .bytes) (q .length - 1) mark) (q .length) ≡ queueOf (pushedTo mark (waiting q) (contents s))
   unfolding queueOf
   pushed-by-marking h =
       let full : hasRoom (waiting q) (length (contents s)) ≡ false = rw (count, count-s) (lt-leb _ _ h) in
-      ap₂ (λ (x : Queue) (n : ℕ). queue (set (x .bytes) (n - 1) mark) (x .length)) is (sym count)
+      ap (λ (x : Queue). queue (set (x .bytes) (x .length - 1) mark) (x .length)) (tidy-is q places t)
       ∙ marked mark (waiting q) (omega (arith, count))
       ∙ ap queueOf (sym (pushed-nothing mark (waiting q) (contents s) full))
 
 -- The mark alone.
-pub marked-last : (q : Queue) → tidy q ≡ true → length (q .bytes) ≡ 16 → (clean : Queue) → clean ≡ queueOf (waiting q) → (mark : ℕ) → 1 ≤ q .length
-    → queue (set (clean .bytes) (q .length - 1) mark) (clean .length) ≡ queueOf (lastReplaced mark (waiting q))
+pub marked-last : (q : Queue) → tidy q ≡ true → length (q .bytes) ≡ 16 → (mark : ℕ) → 1 ≤ q .length
+    → queue (set (q .bytes) (q .length - 1) mark) (q .length) ≡ queueOf (lastReplaced mark (waiting q))
 unfolding queueOf
-marked-last q t places clean is mark h =
+marked-last q t places mark h =
     let count : length (waiting q) ≡ q .length = length-waiting q t places in
-    ap₂ (λ (x : Queue) (n : ℕ). queue (set (x .bytes) (n - 1) mark) (x .length)) is (sym count) ∙ marked mark (waiting q) (omega (arith, count))
+    ap (λ (x : Queue). queue (set (x .bytes) (x .length - 1) mark) (x .length)) (tidy-is q places t) ∙ marked mark (waiting q) (omega (arith, count))
 
 -- Pushed onto an empty queue, a sequence waits alone.
 pub pushed-alone : (q : Queue) (s : Sequence) (mark : ℕ) → q ≡ queueOf [] → s .length ≤ 8 → length (s .bytes) ≡ 8

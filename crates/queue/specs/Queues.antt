@@ -3,8 +3,9 @@ use Prim.Native.Nat.{ℕ, _+_, _-_}
 use mathlib.Core.Bool.{Bool}
 use mathlib.Core.List.{List, [], _∷_, _++_}
 use lib.Dec.{leb}
-use lib.ListN.{length, take, replicate}
-use Rattle.basics.specs.Choice.{pick}
+use lib.ListN.{length, take, drop, replicate}
+use Rattle.basics.specs.Choice.{pick, both}
+use Rattle.basics.specs.Lists.{allUpTo}
 use Rattle.codes.specs.declared.Sequence.{Sequence}
 use Rattle.queue.specs.declared.Queue.{Queue}
 
@@ -16,9 +17,9 @@ waiting q = take (q .length) (q .bytes)
 unfoldable pub queueOf : List ℕ → Queue
 queueOf bytes = record { bytes = bytes ++ replicate (16 - length bytes) 0; length = length bytes }
 
--- The range of a queue: at most 16 bytes wait. What stands behind them does not matter.
+-- The range of a queue: at most 16 bytes wait, and zeros stand behind them. So its meaning fixes it.
 unfoldable pub tidy : Queue → Bool
-tidy q = leb (q .length) 16
+tidy q = both (leb (q .length) 16) (allUpTo 0 (drop (q .length) (q .bytes)))
 
 -- The bytes of a sequence.
 unfoldable pub contents : Sequence → List ℕ

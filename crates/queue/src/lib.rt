@@ -7,7 +7,7 @@ ghost use Prim.Native.Nat.{_≤_};
 ghost use lib.ListN.{drop};
 ghost use Rattle.queue.specs.Queues.{waiting, queueOf, tidy, contents, hasRoom, lastReplaced, pushedTo};
 
-// The first `length` of `bytes` wait, the oldest in front. What is pushed or popped leaves zeros behind them.
+// The first `length` of `bytes` wait, the oldest in front; zeros stand behind them.
 pub struct Queue {
     pub bytes: [u8; 16],
     pub length: usize,
@@ -23,25 +23,18 @@ pub fn empty() -> Queue
     }
 }
 
-// At most 16 bytes wait.
+// At most 16 bytes wait, and zeros stand behind them.
 pub fn is_tidy(q: Queue) -> bool
     ensures { λ r. ⌜ r ≡ tidy q ⌝ }
 {
-    q.length <= 16
-}
-
-// The same bytes wait, and zeros stand behind them, whatever stood there before.
-fn cleaned(q: Queue) -> Queue
-    requires { ⌜ tidy q ≡ true ⌝ }
-    ensures { λ r. ⌜ r ≡ queueOf (waiting q) ⌝ }
-{
-    let mut e = q;
-    let mut i = q.length;
+    let length = q.length;
+    let mut good = length <= 16;
+    let mut i: usize = 0;
     while i < 16 {
-        e.bytes[i] = 0;
+        good = good & ((i < length) | (q.bytes[i] == 0));
         i += 1;
     }
-    e
+    good
 }
 
 // A sequence fits.
@@ -58,7 +51,7 @@ pub fn marked(q: Queue, mark: u8) -> Queue
     ensures { λ r. ⌜ r ≡ queueOf (lastReplaced mark (waiting q)) ⌝ }
 {
     let at = q.length - 1;
-    let mut e = cleaned(q);
+    let mut e = q;
     e.bytes[at] = mark;
     e
 }
@@ -70,7 +63,7 @@ pub fn pushed(q: Queue, s: Sequence, mark: u8) -> Queue
 {
     let at = q.length;
     let n = s.length;
-    let mut e = cleaned(q);
+    let mut e = q;
     if 16 - at < n {
         e.bytes[at - 1] = mark;
         return e;
@@ -90,13 +83,13 @@ pub fn popped(q: Queue) -> Queue
     ensures { λ r. ⌜ r ≡ queueOf (drop 1 (waiting q)) ⌝ }
 {
     let n = q.length;
-    let mut e = cleaned(q);
     if n == 0 {
-        return e;
+        return q;
     }
+    let mut e = q;
     let mut i: usize = 0;
     while i < 15 {
-        e.bytes[i] = e.bytes[i + 1];
+        e.bytes[i] = if i + 1 < n { q.bytes[i + 1] } else { 0 };
         i += 1;
     }
     e.bytes[15] = 0;

@@ -11,7 +11,7 @@ use Rattle.record.specs.Range.{goodMode, goodKeys, inRange}
 use Rattle.record.proofs.Ranges.{in-range}
 
 pub fresh-in-range : (map : List ℕ) (replies : Queue) → allUpTo 104 map ≡ true → tidy replies ≡ true → inRange (freshWith map replies) ≡ true
-unfolding freshWith goodKeys goodMode tidy queueOf
+unfolding freshWith goodKeys goodMode tidy queueOf allUpTo
 fresh-in-range map replies good short = in-range (freshWith map replies) good refl refl short refl
 
 pub power-on-in-range : inRange powerOn ≡ true

@@ -1,4 +1,4 @@
--- `queue::marked` meets its contract: the last byte is replaced, and zeros stand behind it. Assumes nothing.
+-- `queue::marked` meets its contract: the last byte is replaced. Assumes nothing.
 use mathlib.Core.Path.{_≡_}
 use native.Mathlib.Omega.{arith}
 use borrow.Author.Needs.{needs}
@@ -11,18 +11,15 @@ use Rattle.queue.proofs.marked.Tie as tie
 sub-at : tie.Need-sub-at
 sub-at c = search needs
 
-cleaned-requires : tie.Need-cleaned-requires
-cleaned-requires c κs = search needs
-
 element-write-e : tie.Need-element-write-e
-element-write-e c = omega (arith, tidy-short _ (c .before .before .pre .0))
+element-write-e c = omega (arith, tidy-short _ (c .before .pre .0))
 
 returns : tie.Need-returns
 returns c =
-    let s = c .before .before in
+    let s = c .before in
     let q = s .args .q in
     let places : length (q .bytes) ≡ 16 = search needs in
-    marked-last q (s .pre .0) places _ (c .cleaned .ensures) (s .args .mark) (s .pre .1)
+    marked-last q (s .pre .0) places (s .args .mark) (s .pre .1)
 
 pub marked-spec : {M : Type 1} → statement M
-marked-spec = tie.close (tie.spec sub-at cleaned-requires element-write-e returns)
+marked-spec = tie.close (tie.spec sub-at element-write-e returns)
