@@ -1,4 +1,4 @@
--- Columns that share closed rows: what each turn of the searches for them finds out. Assumes nothing.
+-- Columns with two closed rows: what each turn of the search for them finds out, and that no others share. Assumes nothing.
 use mathlib.Core.Path.{_≡_, refl, sym, _∙_}
 use mathlib.Core.Bool.{Bool, true, false}
 use mathlib.Core.List.{List, [], _∷_}
@@ -12,41 +12,6 @@ use lib.ListN.{length, getD, drop, drop-of-length-le}
 use lib.Seq.{drop-cons}
 use Rattle.basics.specs.Choice.{either}
 use Rattle.contacts.specs.Phantom.{twoClosed, shares, sharesAny, isPhantom, anyTwoClosed}
-
--- The search through the columns from a place on for one that shares with x.
-module _ (x : ℕ) (s : List ℕ) (j : ℕ) (h : j < length s) where
-  shares-at : sharesAny x (drop j s) ≡ either (shares x (getD s j 0)) (sharesAny x (drop (j + 1) s))
-  unfolding sharesAny
-  shares-at = rw (add-one, drop-cons s j 0)
-
-  module _ (from : ℕ) (b : Bool) (e : b ≡ shares x (getD s j 0)) (i : sharesAny x (drop from s) ≡ sharesAny x (drop j s)) where
-    pub shares-yes : b ≡ true → true ≡ sharesAny x (drop from s)
-    shares-yes t = rw (i, shares-at, ← e, t)
-
-    pub shares-no : b ≡ false → sharesAny x (drop from s) ≡ sharesAny x (drop (j + 1) s)
-    shares-no f = rw (i, shares-at, ← e, f)
-
-pub shares-end : (x : ℕ) (s : List ℕ) (from j : ℕ) → length s ≤ j
-    → sharesAny x (drop from s) ≡ sharesAny x (drop j s) → false ≡ sharesAny x (drop from s)
-unfolding sharesAny
-shares-end x s from j h i = sym (i ∙ rw drop-of-length-le)
-
--- The search through the columns for one that shares with a later one.
-module _ (s : List ℕ) (j : ℕ) (h : j < length s)
-    (b : Bool) (e : b ≡ sharesAny (getD s j 0) (drop (j + 1) s)) (i : isPhantom s ≡ isPhantom (drop j s)) where
-  phantom-at : isPhantom s ≡ either b (isPhantom (drop (j + 1) s))
-  unfolding isPhantom
-  phantom-at = i ∙ rw (e, add-one, drop-cons s j 0)
-
-  pub phantom-yes : b ≡ true → true ≡ isPhantom s
-  phantom-yes t = rw (phantom-at, t)
-
-  pub phantom-no : b ≡ false → isPhantom s ≡ isPhantom (drop (j + 1) s)
-  phantom-no f = rw (phantom-at, f)
-
-pub phantom-end : (s : List ℕ) (j : ℕ) → length s ≤ j → isPhantom s ≡ isPhantom (drop j s) → false ≡ isPhantom s
-unfolding isPhantom
-phantom-end s j h i = sym (i ∙ rw drop-of-length-le)
 
 -- The test of all columns for one with two closed rows.
 module _ (s : List ℕ) (j : ℕ) (h : j < length s)

@@ -1,10 +1,11 @@
 -- The phantom test (docs/RULES.md, section 5). Assumes nothing.
-use Prim.Native.Nat.{ℕ}
+use Prim.Native.Nat.{ℕ, zero, suc, _+_}
 use mathlib.Core.Bool.{Bool, true, false}
 use mathlib.Core.List.{List, [], _∷_}
 use lib.Dec.{leb}
 use lib.Count.{ones}
 use lib.Bits.{bitAnd}
+use lib.ListN.{getD}
 use Rattle.basics.specs.Choice.{either}
 
 -- Two or more rows of a column are closed.
@@ -29,3 +30,8 @@ isPhantom (x ∷ xs) = either (sharesAny x xs) (isPhantom xs)
 unfoldable pub anyTwoClosed : List ℕ → Bool
 anyTwoClosed [] = false
 anyTwoClosed (x ∷ xs) = either (twoClosed x) (anyTwoClosed xs)
+
+-- One of the first n columns shares with the one at a distance behind it.
+unfoldable pub sharesAt : ℕ → ℕ → List ℕ → Bool
+sharesAt zero distance columns = false
+sharesAt (suc n) distance columns = either (sharesAt n distance columns) (shares (getD columns n 0) (getD columns (n + distance) 0))

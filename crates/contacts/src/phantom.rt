@@ -7,9 +7,9 @@
 //
 // So a scan in which two columns have two rows in common is not to be believed.
 ghost use mathlib.Core.Path.{_≡_};
-ghost use Prim.Native.Nat.{_+_, _<_};
-ghost use lib.ListN.{drop, getD, length};
-ghost use Rattle.contacts.specs.Phantom.{twoClosed, sharesAny, isPhantom, anyTwoClosed};
+ghost use Prim.Native.Nat.{ℕ, _≤_};
+ghost use lib.ListN.{getD, length};
+ghost use Rattle.contacts.specs.Phantom.{twoClosed, isPhantom, anyTwoClosed, sharesAt};
 
 // Two or more rows are closed.
 fn two_closed(rows: u8) -> bool
@@ -33,44 +33,53 @@ fn any_two_closed(scan: &[u8]) -> bool
     any
 }
 
-// A column shares two rows with one from a place on.
-fn shares_any(rows: u8, scan: &[u8], from: usize) -> bool
-    ensures { λ r. ⌜ r ≡ sharesAny rows (drop from (now (scan .entry))) ⌝ }
+// The columns with as many open ones behind them, so that each has another at every distance.
+fn padded(scan: &[u8]) -> [u8; 36]
+    requires { ⌜ length (now scan) ≡ 18 ⌝ }
+    ensures { λ r. ⌜ ((i : ℕ) → getD r i 0 ≡ getD (now (scan .entry)) i 0) ⌝ }
 {
-    let mut j = from;
-    while j < scan.len() {
-        if two_closed(rows & scan[j]) {
-            return true;
+    let mut columns = [0u8; 36];
+    let mut i: usize = 0;
+    while i < 18 {
+        columns[i] = scan[i];
+        i += 1;
+    }
+    columns
+}
+
+// Some column shares two rows with the one at a distance behind it. An early exit would part the pairs that are taken together.
+fn shares_at(columns: &[u8; 36], distance: usize) -> bool
+    requires { ⌜ (length (now columns) ≡ 36) × (distance ≤ 18) ⌝ }
+    ensures { λ r. ⌜ r ≡ sharesAt 18 distance (now (columns .entry)) ⌝ }
+{
+    let mut shared = false;
+    let mut j: usize = 0;
+    while j < 18 {
+        if two_closed(columns[j] & columns[j + distance]) {
+            shared = true;
         }
         j += 1;
     }
-    false
+    shared
 }
 
-// The column at i shares two rows with a later one. One with fewer than two closed rows shares with none.
-fn shares_later(scan: &[u8], i: usize) -> bool
-    requires { ⌜ i < length (now scan) ⌝ }
-    ensures { λ r. ⌜ r ≡ sharesAny (getD (now (scan .entry)) i 0) (drop (i + 1) (now (scan .entry))) ⌝ }
-{
-    if !two_closed(scan[i]) {
-        return false;
-    }
-    shares_any(scan[i], scan, i + 1)
-}
-
-// A scan is phantom. Most scans have no column with two closed rows, and those are not.
+// A scan is phantom. Most scans have no column with two closed rows, and those are not. The others are searched distance by
+// distance and not column by column: the pairs at one distance lie side by side, and the compiler takes sixteen at a time.
 pub fn is_phantom(scan: &[u8]) -> bool
+    requires { ⌜ length (now scan) ≡ 18 ⌝ }
     ensures { λ r. ⌜ r ≡ isPhantom (now (scan .entry)) ⌝ }
 {
     if !any_two_closed(scan) {
         return false;
     }
-    let mut i = 0;
-    while i < scan.len() {
-        if shares_later(scan, i) {
-            return true;
+    let columns = padded(scan);
+    let mut found = false;
+    let mut d: usize = 1;
+    while d < 18 {
+        if shares_at(&columns, d) {
+            found = true;
         }
-        i += 1;
+        d += 1;
     }
-    false
+    found
 }

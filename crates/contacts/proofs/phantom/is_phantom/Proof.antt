@@ -1,21 +1,22 @@
 -- `contacts::phantom::is_phantom` meets its contract. A scan without a column that has two closed rows is not phantom. The loop's
--- invariant: the scan is phantom if its columns from i on are. The measure is what is left of the scan. Assumes nothing.
-use Prim.Native.Nat.{_-_}
-use mathlib.Core.Path.{_≡_, refl}
+-- invariant: the flag says whether two columns less than d apart share. The measure is what is left of the 18. Assumes nothing.
+use Prim.Native.Nat.{_-_, _≤_}
+use mathlib.Core.Path.{_≡_}
+use mathlib.Core.Logic.{⊎-elim}
 use native.Mathlib.Omega.{arith}
 use borrow.Author.Needs.{needs}
 use borrow.Author.Tests.{not-true}
-use lib.ListN.{length, drop}
-use Rattle.contacts.specs.Phantom.{isPhantom}
-use Rattle.contacts.proofs.Rectangles.{few-phantom, phantom-yes, phantom-no, phantom-end}
+use Rattle.contacts.proofs.Rectangles.{few-phantom}
+use Rattle.contacts.proofs.Distances.{sharesWithin, no-distance, distance-shares, distance-apart}
+use Rattle.contacts.proofs.Pairs.{all-distances}
 use Rattle.contacts.proofs.phantom.is_phantom.Statement.{statement}
 use Rattle.contacts.proofs.phantom.is_phantom.Tie as tie
 
 abbrev Inv-loop : tie.InvT-loop
-Inv-loop scan i₀ i = isPhantom scan ≡ isPhantom (drop i scan)
+Inv-loop scan columns found₀ d₀ found d = (1 ≤ d) × (d ≤ 18) × (found ≡ sharesWithin d columns)
 
 abbrev μ-loop : tie.MeasureT-loop
-μ-loop scan i₀ i = length scan - i
+μ-loop scan columns found₀ d₀ found d = 18 - d
 
 any-two-closed-requires : tie.Need-any-two-closed-requires Inv-loop μ-loop
 any-two-closed-requires c κs = search needs
@@ -23,30 +24,39 @@ any-two-closed-requires c κs = search needs
 returns : tie.Need-returns Inv-loop μ-loop
 returns c = few-phantom _ _ (c .before .any-two-closed .ensures) (not-true _ (c .if1 .taken))
 
+padded-requires : tie.Need-padded-requires Inv-loop μ-loop
+padded-requires c κs = search needs
+
 loop-holds : tie.Need-loop-holds Inv-loop μ-loop
-loop-holds c = refl
+loop-holds c = (omega arith, omega arith, no-distance _)
 
-shares-later-requires : tie.Need-shares-later-requires Inv-loop μ-loop
-shares-later-requires c κs = omega arith
+shares-at-requires : tie.Need-shares-at-requires Inv-loop μ-loop
+shares-at-requires c κs = search needs
 
-returns-2 : tie.Need-returns-2 Inv-loop μ-loop
-returns-2 c =
-    let w = c .before .before in
-    phantom-yes _ _ (w .loop-test .taken) _ (c .before .shares-later .ensures) (w .before .loop .inv) (c .if2 .taken)
-
-add-i : tie.Need-add-i Inv-loop μ-loop
-add-i c = omega arith
+add-d : tie.Need-add-d Inv-loop μ-loop
+add-d c = omega arith
 
 loop-less : tie.Need-loop-less Inv-loop μ-loop
 loop-less c = omega arith
 
 loop-again : tie.Need-loop-again Inv-loop μ-loop
 loop-again c =
-    let w = c .before .before in
-    phantom-no _ _ (w .loop-test .taken) _ (c .before .shares-later .ensures) (w .before .loop .inv) (c .if2 .left)
+    let shares = c .before .shares-at .ensures in
+    let l = c .before .before .before .before in (
+      omega arith,
+      omega arith,
+      ⊎-elim
+          (λ w. distance-shares _ (l .loop .d) (l .loop .inv .0) (l .loop .found) (l .loop .inv .2) _ shares _ (w .0 .taken) (w .1))
+          (λ w. distance-apart _ (l .loop .d) (l .loop .inv .0) (l .loop .found) (l .loop .inv .2) _ shares _ (w .0 .left) (w .1))
+          (c .if2 .came),
+    )
 
-returns-3 : tie.Need-returns-3 Inv-loop μ-loop
-returns-3 c = phantom-end _ _ (c .loop-test .left) (c .before .loop .inv)
+returns-2 : tie.Need-returns-2 Inv-loop μ-loop
+returns-2 c =
+    let l = c .before in
+    let start = l .before .before .before .before .before in
+    all-distances (start .args .scan .now) _ (start .pre) (l .before .padded .ensures) (l .loop .d) (l .loop .found) (l .loop .inv .2) (l .loop .inv .1)
+    (c .loop-test .left)
 
 pub is-phantom-spec : {M : Type 1} → statement M
 is-phantom-spec =
@@ -56,10 +66,10 @@ is-phantom-spec =
     μ-loop
     any-two-closed-requires
     returns
+    padded-requires
     loop-holds
-    shares-later-requires
-    returns-2
-    add-i
+    shares-at-requires
+    add-d
     loop-less
     loop-again
-    returns-3)
+    returns-2)
