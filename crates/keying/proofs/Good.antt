@@ -22,10 +22,10 @@ use Rattle.record.specs.declared.Keys.{Keys}
 use Rattle.record.specs.Range.{goodMode, goodKeys}
 use Rattle.keying.specs.Sending.{sends, queuedOf}
 use Rattle.keying.specs.Repeat.{delayOf, intervalOf, ticked, isDue, repeated}
-use Rattle.keying.specs.Moves.{pressed, releasedWith, released, moved, turned, turnsTo, rowsTo}
+use Rattle.keying.specs.Moves.{pressed, releasedWith, released, moved, turned, turnsTo}
 use Rattle.keying.specs.Handover.{handedFrom}
 use Rattle.keying.proofs.Sent.{sends-short}
-use Rattle.keying.proofs.Kept.{picked, handed-keeps, moved-keeps, turned-keeps, turns-keep, rows-keep}
+use Rattle.keying.proofs.Kept.{picked, handed-keeps, moved-keeps, turned-keeps, turns-keep}
 
 -- What the range of the keys says of each part.
 pub record Parts (k : Keys) : Type 0 where
@@ -119,9 +119,6 @@ module _ (m : Mode) where
 
         pub turns-good : (n : ℕ) (was is : List ℕ) (k : Keys) → goodKeys k ≡ true → goodKeys (turnsTo n m types map was is k) ≡ true
         turns-good = turns-keep InRange m released-good pressed-good types map a
-
-        pub rows-good : (n column was is : ℕ) (k : Keys) → goodKeys k ≡ true → goodKeys (rowsTo n m types map column was is k) ≡ true
-        rows-good = rows-keep InRange m released-good pressed-good types map a
 
 -- The key that repeats.
 pub ticked-good : (k : Keys) → goodKeys k ≡ true → goodKeys (ticked k) ≡ true

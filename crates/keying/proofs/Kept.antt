@@ -2,17 +2,17 @@
 use mathlib.Core.Path.{_≡_}
 use mathlib.Core.Bool.{Bool, true, false, not}
 use mathlib.Core.List.{List}
-use Prim.Native.Nat.{ℕ, zero, suc, _+_, _*_, _≤_}
+use Prim.Native.Nat.{ℕ, zero, suc, _≤_}
 use lib.Dec.{eqb}
 use lib.ListN.{getD}
 use Rattle.basics.specs.Choice.{pick, either}
 use Rattle.basics.specs.Lists.{allUpTo}
 use Rattle.basics.proofs.Limits.{up-to-at}
-use Rattle.contacts.specs.Scans.{rowOf, contact}
+use Rattle.contacts.specs.Scans.{contact}
 use Rattle.record.specs.declared.Mode.{Mode}
 use Rattle.record.specs.declared.Keys.{Keys}
 use Rattle.keying.specs.declared.Handed.{Handed}
-use Rattle.keying.specs.Moves.{pressed, released, moved, turned, turnsTo, rowsTo}
+use Rattle.keying.specs.Moves.{pressed, released, moved, turned, turnsTo}
 use Rattle.keying.specs.Handover.{isHeld, canLeave, handedFrom}
 
 -- What holds of both holds of the one that is picked.
@@ -46,9 +46,3 @@ module _ (P : Keys → Type 0) (m : Mode) (up : (k : Keys) (type key : ℕ) → 
       unfolding turnsTo
       turns-keep zero was is k p = p
       turns-keep (suc n) was is k p = turned-keeps n (contact was n) (contact is n) _ (turns-keep n was is k p)
-
-      pub rows-keep : (n column was is : ℕ) (k : Keys) → P k → P (rowsTo n m types map column was is k)
-      unfolding rowsTo
-      rows-keep zero column was is k p = p
-      rows-keep (suc n) column was is k p =
-          turned-keeps (8 * column + n) (rowOf was n) (rowOf is n) _ (rows-keep n column was is k p)

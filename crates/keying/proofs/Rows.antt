@@ -3,40 +3,16 @@ use mathlib.Core.Path.{_≡_, refl, sym, ap, _∙_}
 use mathlib.Core.List.{List}
 use Prim.Native.Nat.{ℕ, zero, suc, _+_, _*_, _≤_}
 use native.Mathlib.Nat.{add-zero, add-suc, le-antisymm}
-use native.Mathlib.Numerals.{add-one}
 use native.Mathlib.Omega.{arith}
-use borrow.Author.Tests.{eq-eqb, ne-eqb}
+use borrow.Author.Tests.{eq-eqb}
 use lib.ListN.{getD}
 use Rattle.contacts.specs.Scans.{rowOf}
 use Rattle.contacts.proofs.Pointwise.{contact-at}
 use Rattle.record.specs.declared.Mode.{Mode}
 use Rattle.record.specs.declared.Keys.{Keys}
-use Rattle.keying.specs.Moves.{moved, turned, turnsTo, rowsTo}
+use Rattle.keying.specs.Moves.{turned, turnsTo, rowsTo}
 
 module _ (m : Mode) (types map : List ℕ) where
-  -- A row more.
-  module _ (column was is : ℕ) (k : Keys) where
-    pub rows-none : k ≡ rowsTo 0 m types map column was is k
-    unfolding rowsTo
-    rows-none = refl
-
-    module _ (row : ℕ) (before : Keys) (i : before ≡ rowsTo row m types map column was is k) where
-      pub row-stays : (after : Keys) → rowOf was row ≡ rowOf is row → after ≡ before
-          → after ≡ rowsTo (row + 1) m types map column was is k
-      unfolding rowsTo turned
-      row-stays after e f = rw (add-one, eq-eqb _ _ e) (f ∙ i)
-
-      pub row-turns : (after : Keys) → (rowOf was row ≡ rowOf is row → ⊥)
-          → after ≡ moved before m types (getD map (8 * column + row) 0) (rowOf is row)
-          → after ≡ rowsTo (row + 1) m types map column was is k
-      unfolding rowsTo turned
-      row-turns after n f =
-          rw (add-one, ne-eqb _ _ n)
-          (f ∙ ap (λ (x : Keys). moved x m types (getD map (8 * column + row) 0) (rowOf is row)) i)
-
-      pub rows-all : row ≤ 8 → 8 ≤ row → before ≡ rowsTo 8 m types map column was is k
-      rows-all a b = i ∙ ap (λ (n : ℕ). rowsTo n m types map column was is k) (le-antisymm a b)
-
   -- In a column that is as it was nothing turned.
   rows-still : (n column byte : ℕ) (k : Keys) → rowsTo n m types map column byte byte k ≡ k
   unfolding rowsTo turned

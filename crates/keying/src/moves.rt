@@ -93,7 +93,7 @@ fn contact_turned(
     release(held, o, m, kind, key)
 }
 
-// The contacts of a column that turned.
+// The contacts of a column that turned: only their rows are visited, the lowest first.
 fn column(
     held: &mut [u8; 144],
     o: Outgoing,
@@ -108,14 +108,11 @@ fn column(
     ensures { λ r. ⌜ keysWith (now (held .exit)) r ≡ rowsTo 8 m (now (types .entry)) (now (map .entry)) c was is (keysWith (now (held .entry)) o) ⌝ }
 {
     let mut e = o;
-    let mut r: usize = 0;
-    while r < 8 {
-        let before = (was >> r) % 2;
-        let after = (is >> r) % 2;
-        if before != after {
-            e = contact_turned(held, e, m, types, map[8 * c + r], after);
-        }
-        r += 1;
+    let mut turned = was ^ is;
+    while turned != 0 {
+        let r = u8::trailing_zeros(turned) as usize;
+        e = contact_turned(held, e, m, types, map[8 * c + r], (is >> r) % 2);
+        turned = turned & (turned - 1);
     }
     e
 }
