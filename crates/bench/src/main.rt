@@ -1,13 +1,17 @@
 // The bench (docs/RULES.md, section 12): lines from standard input go to a dock, and what it answers goes to standard output.
-// What a line does is proved in the crate lines; here text is read, cut into lines, and written.
+// What a line does is proved in the crate lines; here text is read, cut into lines, and written. The dock's record is in range
+// at power-on, and every line leaves it in range: that is proved, so nothing looks at it again.
 use libc::STDIN_FILENO;
 use libc::STDOUT_FILENO;
 use lines::Printed;
 use record::Dock;
 use record::Rest;
 ghost use mathlib.Core.Path.{_≡_};
+ghost use mathlib.Core.Bool.{true};
 ghost use Prim.Native.Nat.{_≤_, _+_};
 ghost use lib.ListN.{length};
+ghost use Rattle.record.specs.Apart.{dockWith};
+ghost use Rattle.record.specs.Range.{inRange};
 
 // What is left of a text after its whole lines were run: the dock, the characters used, and the characters to be printed.
 struct Ran {
@@ -64,8 +68,8 @@ fn run_in_place(
     text: &[u8],
     out: &mut [u8],
 ) -> Walk
-    requires { ⌜ (length (now text) ≤ 16384) × (length (now out) ≡ 65536) × (length (now map) ≡ 144) × (length (now closed) ≡ 18) × (length (now counts) ≡ 144) ⌝ }
-    ensures { λ w. ⌜ (w .used ≤ length (now (text .entry))) × (w .written ≤ 65536) ⌝ }
+    requires { ⌜ (length (now text) ≤ 16384) × (length (now out) ≡ 65536) × (inRange (dockWith (now map) (now closed) (now counts) (now held) (now types) r) ≡ true) × (length (now closed) ≡ 18) × (length (now counts) ≡ 144) ⌝ }
+    ensures { λ w. ⌜ (w .used ≤ length (now (text .entry))) × (w .written ≤ 65536) × (inRange (dockWith (now (map .exit)) (now (closed .exit)) (now (counts .exit)) (now (held .exit)) (now (types .exit)) (w .rest)) ≡ true) ⌝ }
 {
     let mut rest = r;
     let mut at: usize = 0;
@@ -88,8 +92,8 @@ fn run_in_place(
 
 // The same of the whole record, which is taken apart once.
 fn run(d: Dock, text: &[u8], out: &mut [u8]) -> Ran
-    requires { ⌜ (length (now text) ≤ 16384) × (length (now out) ≡ 65536) ⌝ }
-    ensures { λ r. ⌜ (r .used ≤ length (now (text .entry))) × (r .written ≤ 65536) ⌝ }
+    requires { ⌜ (inRange d ≡ true) × (length (now text) ≤ 16384) × (length (now out) ≡ 65536) ⌝ }
+    ensures { λ r. ⌜ (r .used ≤ length (now (text .entry))) × (r .written ≤ 65536) × (inRange (r .dock) ≡ true) ⌝ }
 {
     let contacts = d.contacts;
     let keys = d.keys;
@@ -143,8 +147,8 @@ fn keep(input: &mut [u8], from: usize, end: usize) -> usize
 
 // Runs what is at hand: the characters kept, and those that came after them.
 fn work(d: Dock, input: &mut [u8], out: &mut [u8], end: usize) -> Turn
-    requires { ⌜ (end ≤ 16384) × (length (now input) ≡ 16384) × (length (now out) ≡ 65536) ⌝ }
-    ensures { λ r. ⌜ r .kept ≤ 289 ⌝ }
+    requires { ⌜ (inRange d ≡ true) × (end ≤ 16384) × (length (now input) ≡ 16384) × (length (now out) ≡ 65536) ⌝ }
+    ensures { λ r. ⌜ (r .kept ≤ 289) × (inRange (r .dock) ≡ true) ⌝ }
 {
     let r = run(d, &input[..end], out);
     let dock = r.dock;
@@ -172,8 +176,8 @@ fn end_after(input: &mut [u8], kept: usize, got: isize) -> usize
 
 // Reads once, and runs what came. When nothing comes any more, the last line was run.
 fn next(d: Dock, input: &mut [u8], out: &mut [u8], kept: usize) -> Turn
-    requires { ⌜ (kept ≤ 289) × (length (now input) ≡ 16384) × (length (now out) ≡ 65536) ⌝ }
-    ensures { λ r. ⌜ r .kept ≤ 289 ⌝ }
+    requires { ⌜ (inRange d ≡ true) × (kept ≤ 289) × (length (now input) ≡ 16384) × (length (now out) ≡ 65536) ⌝ }
+    ensures { λ r. ⌜ (r .kept ≤ 289) × (inRange (r .dock) ≡ true) ⌝ }
 {
     let got = libc::read(STDIN_FILENO, &mut input[kept..]);
     let end = end_after(input, kept, got);
@@ -184,7 +188,7 @@ fn next(d: Dock, input: &mut [u8], out: &mut [u8], kept: usize) -> Turn
 
 // Turn after turn. A proved loop has to end, and nothing says that input does: the turns are more than any run uses up.
 fn serve(d: Dock, input: &mut [u8], out: &mut [u8])
-    requires { ⌜ (length (now input) ≡ 16384) × (length (now out) ≡ 65536) ⌝ }
+    requires { ⌜ (inRange d ≡ true) × (length (now input) ≡ 16384) × (length (now out) ≡ 65536) ⌝ }
 {
     let mut dock = d;
     let mut kept: usize = 0;

@@ -1,6 +1,6 @@
 -- A frame from the host as the code meets it. Assumes nothing.
 use mathlib.Core.Path.{_≡_, sym, ap, _∙_}
-use mathlib.Core.Bool.{Bool, true, false}
+use mathlib.Core.Bool.{true, false}
 use mathlib.Core.List.{[], _∷_}
 use Prim.Native.Nat.{ℕ}
 use Rattle.frames.specs.declared.Unpacked.{Unpacked}
@@ -14,15 +14,15 @@ use Rattle.dock.specs.Answers.{answered}
 use Rattle.dock.specs.Closing.{closing}
 use Rattle.dock.specs.Frame.{tookFrame, frameOf}
 
-module _ (d : Dock) (number : ℕ) (good : Bool) (e : good ≡ inRange d) where
-  pub frame-refused : good ≡ false → answered BadRecord d ≡ frameOf d number
+module _ (d : Dock) (number : ℕ) where
+  pub frame-refused : inRange d ≡ false → answered BadRecord d ≡ frameOf d number
   unfolding frameOf
-  frame-refused f = simp (sym e, f)
+  frame-refused f = rw f
 
-  module _ (f : good ≡ true) (unpacked : Unpacked) (u : unpacked ≡ unpackedOf number) where
+  module _ (h : inRange d ≡ true) (unpacked : Unpacked) (u : unpacked ≡ unpackedOf number) where
     by-case : (which : Unpacked) → unpacked ≡ which → tookFrame which d ≡ frameOf d number
     unfolding frameOf
-    by-case which i = simp (sym e, f) (ap (λ (x : Unpacked). tookFrame x d) (sym i ∙ u))
+    by-case which i = rw h (ap (λ (x : Unpacked). tookFrame x d) (sym i ∙ u))
 
     pub frame-too-large : unpacked ≡ TooLarge → answered FrameNumber d ≡ frameOf d number
     unfolding tookFrame

@@ -26,7 +26,7 @@ use Rattle.queue.proofs.Meaning.{tidy-short, tidy-queueOf}
 use Rattle.record.specs.declared.Keys.{Keys}
 use Rattle.record.specs.declared.Dock.{Dock}
 use Rattle.record.specs.declared.Rest.{Rest}
-use Rattle.record.specs.Apart.{dockWith}
+use Rattle.record.specs.Apart.{restOf, dockWith}
 use Rattle.record.specs.Parts.{withContacts, withKeys, withReplies, withQueue}
 use Rattle.record.specs.Range.{inRange}
 use Rattle.record.proofs.Ranges.{good-keys-queue, good-keys-with-queue, good-keys-with-repeat}
@@ -56,6 +56,11 @@ unfolding allUpTo
 rest-in-range map closed counts held types r h =
     let unseen = in-range-with-contacts (dockWith map closed counts held types r) h (contacts [] []) in
     in-range-with-map (dockWith map [] [] held types r) unseen [] refl
+
+-- A record that was looked at, taken apart.
+pub apart-in-range : (d : Dock) (r : Rest) (good : Bool) → r ≡ restOf d → good ≡ inRange d → good ≡ true
+    → inRange (dockWith (d .map) (d .contacts .closed) (d .contacts .counts) (d .keys .held) (d .types) r) ≡ true
+apart-in-range d r good e i t = rw (e, ← i) t
 
 -- The end of every accepted call.
 pub closing-in-range : (d : Dock) → inRange d ≡ true → inRange (closing d) ≡ true

@@ -1,11 +1,11 @@
 -- A read as the code meets it, test by test. Assumes nothing.
-use mathlib.Core.Path.{_≡_, refl, sym}
-use mathlib.Core.Bool.{Bool, true, false}
+use mathlib.Core.Path.{_≡_, refl}
+use mathlib.Core.Bool.{true, false}
 use mathlib.Core.List.{List, [], _∷_}
 use Prim.Native.Nat.{ℕ, zero, suc, _≤_}
 use native.Mathlib.Omega.{arith}
 use borrow.Author.Tests.{eq-eqb, ne-eqb}
-use lib.ListN.{length, getD, take}
+use lib.ListN.{getD, take}
 use Rattle.queue.specs.declared.Queue.{Queue}
 use Rattle.queue.specs.Queues.{waiting}
 use Rattle.record.specs.declared.Dock.{Dock}
@@ -40,21 +40,21 @@ module _ (d : Dock) (rest : Queue) (byte : ℕ) (kept r : Dock) (i : r ≡ closi
   key-byte-given b e k = rw (i, k, e, b)
 
 -- The whole call.
-module _ (d : Dock) (good : Bool) (e : good ≡ inRange d) where
-  pub read-refused : good ≡ false → taken Refused d ≡ readOf d
+module _ (d : Dock) where
+  pub read-refused : inRange d ≡ false → taken Refused d ≡ readOf d
   unfolding readOf
-  read-refused f = simp (sym e, f)
+  read-refused f = rw f
 
-  module _ (f : good ≡ true) where
+  module _ (h : inRange d ≡ true) where
     pub read-reply : (d .replies .length ≡ 0 → ⊥) → (r : Taken) → r ≡ replyTaken d → r ≡ readOf d
     unfolding readOf read
-    read-reply n r i = simp (sym e, f, ne-eqb (d .replies .length) 0 n, i)
+    read-reply n r i = simp (h, ne-eqb (d .replies .length) 0 n, i)
 
     module _ (n : d .replies .length ≡ 0) where
       pub read-key-byte : (d .keys .queue .length ≡ 0 → ⊥) → (r : Taken) → r ≡ keyByteTaken d → r ≡ readOf d
       unfolding readOf read
-      read-key-byte m r i = simp (sym e, f, eq-eqb (d .replies .length) 0 n, ne-eqb (d .keys .queue .length) 0 m, i)
+      read-key-byte m r i = simp (h, eq-eqb (d .replies .length) 0 n, ne-eqb (d .keys .queue .length) 0 m, i)
 
       pub read-nothing : d .keys .queue .length ≡ 0 → (r : Dock) → r ≡ closing d → taken Nothing r ≡ readOf d
       unfolding readOf read
-      read-nothing m r i = simp (sym e, f, eq-eqb (d .replies .length) 0 n, eq-eqb (d .keys .queue .length) 0 m, i)
+      read-nothing m r i = simp (h, eq-eqb (d .replies .length) 0 n, eq-eqb (d .keys .queue .length) 0 m, i)

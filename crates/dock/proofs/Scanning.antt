@@ -1,5 +1,5 @@
 -- A scan as the code meets it, test by test. Assumes nothing.
-use mathlib.Core.Path.{_≡_, sym, _∙_}
+use mathlib.Core.Path.{_≡_, sym}
 use mathlib.Core.Bool.{Bool, true, false, not, _&&_, and-assoc}
 use mathlib.Core.List.{List}
 use Prim.Native.Nat.{ℕ, zero, suc, _+_}
@@ -63,21 +63,21 @@ unfolding heardScan
 heard-whole d scan next r e i = rw e at i
 
 -- The whole call.
-module _ (d : Dock) (scan : List ℕ) (good : Bool) (e : good ≡ inRange d) where
-  pub scan-refused : good ≡ false → answered BadRecord d ≡ scanOf d scan
+module _ (d : Dock) (scan : List ℕ) where
+  pub scan-refused : inRange d ≡ false → answered BadRecord d ≡ scanOf d scan
   unfolding scanOf
-  scan-refused f = simp (sym e, f)
+  scan-refused f = rw f
 
-  module _ (f : good ≡ true) where
+  module _ (h : inRange d ≡ true) where
     pub scan-wrong-length : (length scan ≡ 18 → ⊥) → answered ScanLength d ≡ scanOf d scan
     unfolding scanOf
-    scan-wrong-length n = simp (sym e, f, ne-eqb (length scan) 18 n)
+    scan-wrong-length n = simp (h, ne-eqb (length scan) 18 n)
 
     module _ (l : length scan ≡ 18) (listens : Bool) (g : listens ≡ listening d) (r : Dock) where
       pub scan-not-heard : listens ≡ false → r ≡ closing d → answered Accepted r ≡ scanOf d scan
       unfolding scanOf scanned
-      scan-not-heard n i = simp (sym e, f, eq-eqb (length scan) 18 l, sym g, n, i)
+      scan-not-heard n i = simp (h, eq-eqb (length scan) 18 l, sym g, n, i)
 
       pub scan-heard : listens ≡ true → r ≡ heardScan d scan → answered Accepted r ≡ scanOf d scan
       unfolding scanOf scanned
-      scan-heard y i = simp (sym e, f, eq-eqb (length scan) 18 l, sym g, y, i)
+      scan-heard y i = simp (h, eq-eqb (length scan) 18 l, sym g, y, i)

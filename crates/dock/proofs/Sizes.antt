@@ -1,12 +1,10 @@
--- The map and the contacts keep their sizes, whatever is called. Assumes nothing.
+-- The contacts keep their sizes, whatever is called. Assumes nothing.
 use mathlib.Core.Path.{_≡_, refl, _∙_}
-use mathlib.Core.Bool.{Bool, true, false}
-use mathlib.Core.List.{List, [], _∷_}
+use mathlib.Core.List.{List}
 use Prim.Native.Nat.{ℕ, _-_}
-use borrow.Author.Tests.{eqb-true}
 use lib.Dec.{eqb, leb}
 use lib.ListN.{length}
-use Rattle.basics.specs.Choice.{pick, between}
+use Rattle.basics.specs.Choice.{between}
 use Rattle.basics.specs.Lists.{allUpTo}
 use Rattle.contacts.specs.Phantom.{isPhantom}
 use Rattle.contacts.proofs.Pointwise.{closed-length, counts-length}
@@ -17,6 +15,7 @@ use Rattle.host.specs.Commands.{readied, enabled, defaulted, disabled, typed, c
 use Rattle.keying.proofs.Kept.{picked}
 use Rattle.maps.specs.Maps.{hasDouble}
 use Rattle.record.specs.declared.Dock.{Dock}
+use Rattle.record.specs.Parts.{withMap}
 use Rattle.record.specs.Power.{freshWith}
 use Rattle.record.specs.Range.{inRange}
 use Rattle.dock.specs.declared.Answered.{Answered}
@@ -28,21 +27,16 @@ use Rattle.dock.specs.Frame.{tookFrame, frameOf}
 use Rattle.dock.specs.Read.{remembering, replyTaken, keyByteTaken, read, readOf}
 
 pub record Sizes (d : Dock) : Type 0 where
-  pub map : length (d .map) ≡ 144
   pub closed : length (d .contacts .closed) ≡ 18
   pub counts : length (d .contacts .counts) ≡ 144
 
 -- The same sizes, of a record whose other parts differ.
-like : (d e : Dock) → Sizes d → e .map ≡ d .map → e .contacts ≡ d .contacts → Sizes e
-like d e s m c = record { map = rw m (s .map); closed = rw c (s .closed); counts = rw c (s .counts) }
-
-picked-if : {A : Type 0} (P : A → Type 0) (b : Bool) (x y : A) → (b ≡ true → P x) → P y → P (pick b x y)
-picked-if P true x y p q = p refl
-picked-if P false x y p q = q
+like : (d e : Dock) → Sizes d → e .contacts ≡ d .contacts → Sizes e
+like d e s c = record { closed = rw c (s .closed); counts = rw c (s .counts) }
 
 closing-sizes : (d : Dock) → Sizes d → Sizes (closing d)
 unfolding closing
-closing-sizes d s = picked Sizes (d .handover) _ _ (like d _ s refl refl) s
+closing-sizes d s = picked Sizes (d .handover) _ _ (like d _ s refl) s
 
 abbrev After : Answered → Type 0
 After a = Sizes (a .dock)
@@ -52,13 +46,13 @@ changed-sizes : (d : Dock) (scan : List ℕ) → Sizes d → Sizes (changed d sc
 unfolding changed counting
 changed-sizes d scan s =
     picked Sizes (isPhantom scan) _ _ s
-    (record { map = s .map; closed = closed-length (d .contacts) scan ∙ s .closed; counts = counts-length (d .contacts) scan ∙ s .counts })
+    (record { closed = closed-length (d .contacts) scan ∙ s .closed; counts = counts-length (d .contacts) scan ∙ s .counts })
 
 heard-sizes : (d : Dock) (scan : List ℕ) → Sizes d → Sizes (heardScan d scan)
 unfolding heardScan repeating
 heard-sizes d scan s =
-    let after = changed-sizes _ scan (like d _ s refl refl) in
-    like (changed _ scan) _ after refl refl
+    let after = changed-sizes _ scan (like d _ s refl) in
+    like (changed _ scan) _ after refl
 
 pub scan-sizes : (d : Dock) (scan : List ℕ) → Sizes d → Sizes (scanOf d scan .dock)
 unfolding scanOf scanned
@@ -76,27 +70,23 @@ unfolding readOf read replyTaken keyByteTaken remembering
 read-sizes d s =
     picked Given (inRange d) _ _
     (picked Given (eqb (d .replies .length) 0) _ _
-    (picked Given (eqb (d .keys .queue .length) 0) _ _ (closing-sizes d s) (closing-sizes _ (like d _ s refl refl)))
-    (closing-sizes _ (like d _ s refl refl)))
+    (picked Given (eqb (d .keys .queue .length) 0) _ _ (closing-sizes d s) (closing-sizes _ (like d _ s refl)))
+    (closing-sizes _ (like d _ s refl)))
     s
 
--- A swap: the new map has its size.
-swapped-sizes : (d : Dock) (map : List ℕ) → Sizes d → length map ≡ 144 → Sizes (swapped d map)
+-- A swap.
+swapped-sizes : (d : Dock) (map : List ℕ) → Sizes d → Sizes (swapped d map)
 unfolding swapped remapped opened
-swapped-sizes d map s l =
+swapped-sizes d map s =
     closing-sizes _
-    (picked Sizes (d .handover) _ _
-    (record { map = l; closed = s .closed; counts = s .counts })
-    (record { map = l; closed = refl; counts = refl }))
+    (picked Sizes (d .handover) (withMap d map) (opened d map) (like d _ s refl) (record { closed = refl; counts = refl }))
 
 pub swap-sizes : (d : Dock) (map : List ℕ) → Sizes d → Sizes (swapOf d map .dock)
 unfolding swapOf
 swap-sizes d map s =
     picked After (inRange d) _ _
-    (picked-if After (eqb (length map) 144) _ _
-    (λ l. picked After (allUpTo 104 map) _ _
-    (picked After (hasDouble map) _ _ s (swapped-sizes d map s (eqb-true (length map) 144 l)))
-    s)
+    (picked After (eqb (length map) 144) _ _
+    (picked After (allUpTo 104 map) _ _ (picked After (hasDouble map) _ _ s (swapped-sizes d map s)) s)
     s)
     s
 
@@ -104,35 +94,35 @@ swap-sizes d map s =
 obeyed-sizes : (byte : ℕ) (d : Dock) → Sizes d → Sizes (obeyed byte d)
 unfolding obeyed freshWith
 obeyed-sizes byte d s =
-    picked Sizes (eqb byte 0xf0) (readied d) _ (like d _ s refl refl)
-    (picked Sizes (eqb byte 0xf4) (enabled d) _ (like d _ s refl refl)
-    (picked Sizes (eqb byte 0xf5) (disabled d) _ (like d _ s refl refl)
-    (picked Sizes (eqb byte 0xf6) (defaulted d) _ (like d _ s refl refl)
-    (picked Sizes (between 0xf7 0xfa byte) (typed (byte - 0xf7) d) _ (like d _ s refl refl)
-    (picked Sizes (between 0xfb 0xfd byte) (cleared d) _ (like d _ s refl refl)
-    (picked Sizes (eqb byte 0xff) (restarted d) d (record { map = s .map; closed = refl; counts = refl }) s))))))
+    picked Sizes (eqb byte 0xf0) (readied d) _ (like d _ s refl)
+    (picked Sizes (eqb byte 0xf4) (enabled d) _ (like d _ s refl)
+    (picked Sizes (eqb byte 0xf5) (disabled d) _ (like d _ s refl)
+    (picked Sizes (eqb byte 0xf6) (defaulted d) _ (like d _ s refl)
+    (picked Sizes (between 0xf7 0xfa byte) (typed (byte - 0xf7) d) _ (like d _ s refl)
+    (picked Sizes (between 0xfb 0xfd byte) (cleared d) _ (like d _ s refl)
+    (picked Sizes (eqb byte 0xff) (restarted d) d (record { closed = refl; counts = refl }) s))))))
 
 valued-sizes : (command value : ℕ) (d : Dock) → Sizes d → Sizes (valued command value d)
 unfolding valued
 valued-sizes command value d s =
-    picked Sizes (eqb command 0xed) _ _ (like d _ s refl refl)
-    (picked Sizes (eqb command 0xf0) _ _ (like d _ s refl refl)
-    (picked Sizes (eqb command 0xf3) _ _ (like d _ s refl refl) (like d _ s refl refl)))
+    picked Sizes (eqb command 0xed) _ _ (like d _ s refl)
+    (picked Sizes (eqb command 0xf0) _ _ (like d _ s refl)
+    (picked Sizes (eqb command 0xf3) _ _ (like d _ s refl) (like d _ s refl)))
 
 took-sizes : (byte : ℕ) (d : Dock) → Sizes d → Sizes (tookByte byte d)
 unfolding tookByte commanded given
 took-sizes byte d s =
-    picked Sizes (eqb byte 0xfe) _ _ (like d _ s refl refl)
+    picked Sizes (eqb byte 0xfe) _ _ (like d _ s refl)
     (picked Sizes (leb 0xed byte) _ _
-    (like (obeyed byte d) _ (obeyed-sizes byte d s) refl refl)
+    (like (obeyed byte d) _ (obeyed-sizes byte d s) refl)
     (picked Sizes (rightValue (d .waiting) byte) _ _
-    (like (valued (d .waiting) byte d) _ (valued-sizes (d .waiting) byte d s) refl refl)
-    (like d _ s refl refl)))
+    (like (valued (d .waiting) byte d) _ (valued-sizes (d .waiting) byte d s) refl)
+    (like d _ s refl)))
 
 framed-sizes : (unpacked : Unpacked) (d : Dock) → Sizes d → Sizes (tookFrame unpacked d .dock)
 unfolding tookFrame
 framed-sizes (Byte byte) d s = closing-sizes _ (took-sizes byte d s)
-framed-sizes Broken d s = closing-sizes _ (like d _ s refl refl)
+framed-sizes Broken d s = closing-sizes _ (like d _ s refl)
 framed-sizes TooLarge d s = s
 
 pub frame-sizes : (d : Dock) (number : ℕ) → Sizes d → Sizes (frameOf d number .dock)

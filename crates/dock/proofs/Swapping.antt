@@ -1,10 +1,11 @@
 -- A swap as the code meets it, test by test. Assumes nothing.
-use mathlib.Core.Path.{_≡_, sym}
+use mathlib.Core.Path.{_≡_, refl, sym}
 use mathlib.Core.Bool.{Bool, true, false}
 use mathlib.Core.List.{List}
 use Prim.Native.Nat.{ℕ}
 use borrow.Author.Tests.{eq-eqb, ne-eqb}
 use lib.ListN.{length}
+use Rattle.basics.specs.Choice.{pick}
 use Rattle.basics.specs.Lists.{allUpTo}
 use Rattle.maps.specs.Maps.{hasDouble}
 use Rattle.record.specs.declared.Dock.{Dock}
@@ -15,40 +16,48 @@ use Rattle.dock.specs.Answers.{answered}
 use Rattle.dock.specs.Closing.{closing}
 use Rattle.dock.specs.Swap.{opened, remapped, swapped, swapOf}
 
--- The record with the map.
+-- The record with the map: a handover is open in it.
 module _ (d : Dock) (map : List ℕ) where
   pub second-swap : d .handover ≡ true → withMap d map ≡ remapped d map
   unfolding remapped
   second-swap t = rw t
 
-  pub first-swap : d .handover ≡ false → (r : Dock) → r ≡ opened d map → r ≡ remapped d map
+  pub first-swap : d .handover ≡ false → opened d map ≡ remapped d map
   unfolding remapped
-  first-swap f r e = rw (e, f)
+  first-swap f = rw f
+
+  pub swap-opens : (next : Dock) → next ≡ remapped d map → next .handover ≡ true
+  unfolding remapped opened
+  swap-opens next e = rw e (by (d .handover) refl)
+    where
+      by : (b : Bool) → d .handover ≡ b → pick b (withMap d map) (opened d map) .handover ≡ true
+      by true t = t
+      by false t = refl
 
 -- The whole call.
-module _ (d : Dock) (map : List ℕ) (good : Bool) (e : good ≡ inRange d) where
-  pub swap-refused : good ≡ false → answered BadRecord d ≡ swapOf d map
+module _ (d : Dock) (map : List ℕ) where
+  pub swap-refused : inRange d ≡ false → answered BadRecord d ≡ swapOf d map
   unfolding swapOf
-  swap-refused f = simp (sym e, f)
+  swap-refused f = rw f
 
-  module _ (f : good ≡ true) where
+  module _ (g : inRange d ≡ true) where
     pub swap-wrong-length : (length map ≡ 144 → ⊥) → answered MapLength d ≡ swapOf d map
     unfolding swapOf
-    swap-wrong-length n = simp (sym e, f, ne-eqb (length map) 144 n)
+    swap-wrong-length n = simp (g, ne-eqb (length map) 144 n)
 
-    module _ (l : length map ≡ 144) (copy : List ℕ) (c : copy ≡ map) (small : Bool) (g : small ≡ allUpTo 104 copy) where
+    module _ (l : length map ≡ 144) (copy : List ℕ) (c : copy ≡ map) (small : Bool) (s : small ≡ allUpTo 104 copy) where
       long : length copy ≡ 144
       long = rw c l
 
       pub swap-wrong-entry : small ≡ false → answered MapEntry d ≡ swapOf d map
       unfolding swapOf
-      swap-wrong-entry n = simp (sym e, f, eq-eqb (length copy) 144 long, sym c, sym g, n)
+      swap-wrong-entry n = simp (g, eq-eqb (length copy) 144 long, sym c, sym s, n)
 
       module _ (y : small ≡ true) (double : Bool) (h : double ≡ hasDouble copy) where
         pub swap-double : double ≡ true → answered MapDouble d ≡ swapOf d map
         unfolding swapOf
-        swap-double t = simp (sym e, f, eq-eqb (length copy) 144 long, sym c, sym g, y, sym h, t)
+        swap-double t = simp (g, eq-eqb (length copy) 144 long, sym c, sym s, y, sym h, t)
 
         pub swap-taken : double ≡ false → (next r : Dock) → next ≡ remapped d copy → r ≡ closing next → answered Accepted r ≡ swapOf d map
         unfolding swapOf swapped
-        swap-taken n next r i j = simp (sym e, f, eq-eqb (length copy) 144 long, sym c, sym g, y, sym h, n, j, i)
+        swap-taken n next r i j = simp (g, eq-eqb (length copy) 144 long, sym c, sym s, y, sym h, n, j, i)

@@ -1,18 +1,14 @@
 // How every accepted call ends: an open handover goes on.
-use record::Dock;
 use record::Rest;
-use record::apart::dock_with;
-use record::apart::rest_of;
 ghost use mathlib.Core.Path.{_≡_};
 ghost use mathlib.Core.Bool.{true};
 ghost use mathlib.Core.List.{List};
 ghost use Prim.Native.Nat.{ℕ};
 ghost use Rattle.record.specs.Apart.{dockWith};
-ghost use Rattle.record.specs.Range.{inRange};
 ghost use Rattle.dock.specs.Closing.{closing, restInRange};
 
 // An open handover goes on: the flags of the held keys are lent. It is apart, so that calls do not pay for it while none is open.
-fn go_on(held: &mut [u8; 144], types: &[u8; 105], r: Rest) -> Rest
+pub(crate) fn go_on(held: &mut [u8; 144], types: &[u8; 105], r: Rest) -> Rest
     requires { ⌜ (restInRange (now held) (now types) r ≡ true) × (r .handover ≡ true) ⌝ }
     ensures { λ e. ⌜ ((map closed counts : List ℕ) → dockWith map closed counts (now (held .exit)) (now (types .entry)) e ≡ closing (dockWith map closed counts (now (held .entry)) (now (types .entry)) r)) ⌝ }
 {
@@ -26,7 +22,7 @@ fn go_on(held: &mut [u8; 144], types: &[u8; 105], r: Rest) -> Rest
     e
 }
 
-// In place.
+// So an accepted call ends.
 pub fn close_in_place(held: &mut [u8; 144], types: &[u8; 105], r: Rest) -> Rest
     requires { ⌜ restInRange (now held) (now types) r ≡ true ⌝ }
     ensures { λ e. ⌜ ((map closed counts : List ℕ) → dockWith map closed counts (now (held .exit)) (now (types .entry)) e ≡ closing (dockWith map closed counts (now (held .entry)) (now (types .entry)) r)) ⌝ }
@@ -35,24 +31,4 @@ pub fn close_in_place(held: &mut [u8; 144], types: &[u8; 105], r: Rest) -> Rest
         return r;
     }
     go_on(held, types, r)
-}
-
-// The whole record.
-pub fn close(d: Dock) -> Dock
-    requires { ⌜ inRange d ≡ true ⌝ }
-    ensures { λ r. ⌜ r ≡ closing d ⌝ }
-{
-    if !d.handover {
-        return d;
-    }
-    let contacts = d.contacts;
-    let keys = d.keys;
-    let map = d.map;
-    let closed = contacts.closed;
-    let counts = contacts.counts;
-    let mut held = keys.held;
-    let types = d.types;
-    let r = rest_of(d);
-    let e = go_on(&mut held, &types, r);
-    dock_with(map, closed, counts, held, types, e)
 }

@@ -11,14 +11,17 @@ use record::Rest;
 use record::apart::dock_with;
 use record::apart::rest_of;
 ghost use mathlib.Core.Path.{_≡_};
-ghost use lib.ListN.{length};
+ghost use mathlib.Core.Bool.{true};
+ghost use mathlib.Core.List.{List};
+ghost use Prim.Native.Nat.{ℕ};
 ghost use Rattle.record.specs.Apart.{dockWith};
+ghost use Rattle.record.specs.Range.{inRange};
 ghost use Rattle.dock.specs.Answers.{answeredWith};
+ghost use Rattle.dock.specs.Closing.{restInRange};
 ghost use Rattle.dock.specs.Frame.{frameOf};
 
-// The frame call in place.
+// The frame call in place, of a record in its range, whatever the map is.
 pub fn frame_in_place(
-    map: &[u8; 144],
     closed: &mut [u8; 18],
     counts: &mut [u8; 144],
     held: &mut [u8; 144],
@@ -26,15 +29,9 @@ pub fn frame_in_place(
     r: Rest,
     number: u32,
 ) -> Done
-    requires { ⌜ length (now map) ≡ 144 ⌝ }
-    ensures { λ x. ⌜ answeredWith (now (map .entry)) (now (closed .exit)) (now (counts .exit)) (now (held .exit)) (now (types .exit)) x ≡ frameOf (dockWith (now (map .entry)) (now (closed .entry)) (now (counts .entry)) (now (held .entry)) (now (types .entry)) r) number ⌝ }
+    requires { ⌜ restInRange (now held) (now types) r ≡ true ⌝ }
+    ensures { λ x. ⌜ ((map : List ℕ) → inRange (dockWith map (now (closed .entry)) (now (counts .entry)) (now (held .entry)) (now (types .entry)) r) ≡ true → answeredWith map (now (closed .exit)) (now (counts .exit)) (now (held .exit)) (now (types .exit)) x ≡ frameOf (dockWith map (now (closed .entry)) (now (counts .entry)) (now (held .entry)) (now (types .entry)) r) number) ⌝ }
 {
-    if !record::range::parts_in_range(map, r) {
-        return Done {
-            answer: Answer::BadRecord,
-            rest: r,
-        };
-    }
     let unpacked = frames::unpack(number);
     match unpacked {
         Unpacked::TooLarge => Done {
@@ -55,10 +52,16 @@ pub fn frame_in_place(
     }
 }
 
-// The frame call.
+// The frame call: a record out of its range is refused first.
 pub fn frame(d: Dock, number: u32) -> Answered
     ensures { λ r. ⌜ r ≡ frameOf d number ⌝ }
 {
+    if !record::range::in_range(d) {
+        return Answered {
+            answer: Answer::BadRecord,
+            dock: d,
+        };
+    }
     let contacts = d.contacts;
     let keys = d.keys;
     let map = d.map;
@@ -67,15 +70,7 @@ pub fn frame(d: Dock, number: u32) -> Answered
     let mut held = keys.held;
     let mut types = d.types;
     let r = rest_of(d);
-    let x = frame_in_place(
-        &map,
-        &mut closed,
-        &mut counts,
-        &mut held,
-        &mut types,
-        r,
-        number,
-    );
+    let x = frame_in_place(&mut closed, &mut counts, &mut held, &mut types, r, number);
     let answer = x.answer;
     let rest = x.rest;
     Answered {

@@ -1,5 +1,6 @@
-// The dock (docs/RULES.md): one module for each call. Every call takes the record and gives it back beside its answer. A refused
-// call gives it back as it was. Scans, reads and frames can also be had in place: the arrays are lent, and only the rest is passed.
+// The dock (docs/RULES.md): one module for each call. Every call takes any record and gives it back beside its answer. A refused
+// call gives it back as it was. A caller that knows its record to be in range has each call in place, where nothing is looked at again:
+// the arrays are lent, and only the rest is passed.
 use record::Dock;
 use record::Rest;
 

@@ -11,8 +11,8 @@ ghost use mathlib.Core.Path.{_≡_};
 ghost use mathlib.Core.Bool.{true};
 ghost use mathlib.Core.List.{List};
 ghost use Prim.Native.Nat.{ℕ, _≤_};
-ghost use lib.ListN.{length};
 ghost use Rattle.record.specs.Apart.{dockWith};
+ghost use Rattle.record.specs.Range.{inRange};
 ghost use Rattle.dock.specs.Answers.{takenWith};
 ghost use Rattle.dock.specs.Closing.{restInRange};
 ghost use Rattle.dock.specs.Read.{remembering, replyTaken, keyByteTaken, readOf};
@@ -61,17 +61,11 @@ fn take_key_byte(held: &mut [u8; 144], types: &[u8; 105], r: Rest) -> Gave
     }
 }
 
-// The read call in place.
-pub fn read_in_place(map: &[u8; 144], held: &mut [u8; 144], types: &[u8; 105], r: Rest) -> Gave
-    requires { ⌜ length (now map) ≡ 144 ⌝ }
-    ensures { λ x. ⌜ ((closed counts : List ℕ) → takenWith (now (map .entry)) closed counts (now (held .exit)) (now (types .entry)) x ≡ readOf (dockWith (now (map .entry)) closed counts (now (held .entry)) (now (types .entry)) r)) ⌝ }
+// The read call in place, of a record in its range, whatever the map and the contacts are.
+pub fn read_in_place(held: &mut [u8; 144], types: &[u8; 105], r: Rest) -> Gave
+    requires { ⌜ restInRange (now held) (now types) r ≡ true ⌝ }
+    ensures { λ x. ⌜ ((map closed counts : List ℕ) → inRange (dockWith map closed counts (now (held .entry)) (now (types .entry)) r) ≡ true → takenWith map closed counts (now (held .exit)) (now (types .entry)) x ≡ readOf (dockWith map closed counts (now (held .entry)) (now (types .entry)) r)) ⌝ }
 {
-    if !record::range::parts_in_range(map, r) {
-        return Gave {
-            given: Given::Refused,
-            rest: r,
-        };
-    }
     let replies = r.replies;
     if replies.length != 0 {
         return take_reply(held, types, r);
@@ -87,10 +81,16 @@ pub fn read_in_place(map: &[u8; 144], held: &mut [u8; 144], types: &[u8; 105], r
     }
 }
 
-// The read call.
+// The read call: a record out of its range is refused.
 pub fn read(d: Dock) -> Taken
     ensures { λ r. ⌜ r ≡ readOf d ⌝ }
 {
+    if !record::range::in_range(d) {
+        return Taken {
+            given: Given::Refused,
+            dock: d,
+        };
+    }
     let contacts = d.contacts;
     let keys = d.keys;
     let map = d.map;
@@ -99,7 +99,7 @@ pub fn read(d: Dock) -> Taken
     let mut held = keys.held;
     let types = d.types;
     let r = rest_of(d);
-    let x = read_in_place(&map, &mut held, &types, r);
+    let x = read_in_place(&mut held, &types, r);
     let given = x.given;
     let rest = x.rest;
     Taken {

@@ -106,7 +106,7 @@ fn hear(
     repeat(held, types, changed)
 }
 
-// The scan call in place.
+// The scan call in place, of a record in its range.
 pub fn scan_in_place(
     map: &[u8; 144],
     closed: &mut [u8; 18],
@@ -116,15 +116,9 @@ pub fn scan_in_place(
     r: Rest,
     scan: &[u8],
 ) -> Done
-    requires { ⌜ (length (now map) ≡ 144) × (length (now closed) ≡ 18) × (length (now counts) ≡ 144) ⌝ }
+    requires { ⌜ (inRange (dockWith (now map) (now closed) (now counts) (now held) (now types) r) ≡ true) × (length (now closed) ≡ 18) × (length (now counts) ≡ 144) ⌝ }
     ensures { λ x. ⌜ answeredWith (now (map .entry)) (now (closed .exit)) (now (counts .exit)) (now (held .exit)) (now (types .entry)) x ≡ scanOf (dockWith (now (map .entry)) (now (closed .entry)) (now (counts .entry)) (now (held .entry)) (now (types .entry)) r) (now (scan .entry)) ⌝ }
 {
-    if !record::range::parts_in_range(map, r) {
-        return Done {
-            answer: Answer::BadRecord,
-            rest: r,
-        };
-    }
     if scan.len() != 18 {
         return Done {
             answer: Answer::ScanLength,
@@ -143,10 +137,16 @@ pub fn scan_in_place(
     }
 }
 
-// The scan call.
+// The scan call: a record out of its range is refused first.
 pub fn scan(d: Dock, scan: &[u8]) -> Answered
     ensures { λ r. ⌜ r ≡ scanOf d (now (scan .entry)) ⌝ }
 {
+    if !record::range::in_range(d) {
+        return Answered {
+            answer: Answer::BadRecord,
+            dock: d,
+        };
+    }
     let contacts = d.contacts;
     let keys = d.keys;
     let map = d.map;

@@ -1,48 +1,86 @@
 // Another panel.
 use crate::Answer;
 use crate::Answered;
-use crate::closing::close;
-use contacts::Contacts;
+use crate::Done;
+use crate::closing::go_on;
 use maps::copied;
 use maps::has_double;
 use record::Dock;
+use record::Rest;
+use record::apart::dock_with;
+use record::apart::rest_of;
 ghost use mathlib.Core.Path.{_≡_};
-ghost use Rattle.dock.specs.Swap.{opened, remapped, swapOf};
+ghost use mathlib.Core.Bool.{true};
+ghost use mathlib.Core.List.{List};
+ghost use Prim.Native.Nat.{ℕ};
+ghost use Rattle.record.specs.Apart.{dockWith};
+ghost use Rattle.record.specs.Range.{inRange};
+ghost use Rattle.dock.specs.Answers.{answeredWith};
+ghost use Rattle.dock.specs.Swap.{remapped, swapOf};
 
-// The first swap: contact history and the repeating key are dropped, and a handover opens.
-fn open_handover(d: Dock, map: [u8; 144]) -> Dock
-    ensures { λ r. ⌜ r ≡ opened d map ⌝ }
+// The first swap drops contact history and the repeating key, and a handover opens. While one is open nothing but the map is replaced.
+fn open_handover(closed: &mut [u8; 18], counts: &mut [u8; 144], r: Rest) -> Rest
+    ensures { λ e. ⌜ ((map held types new : List ℕ) → dockWith new (now (closed .exit)) (now (counts .exit)) held types e ≡ remapped (dockWith map (now (closed .entry)) (now (counts .entry)) held types r) new) ⌝ }
 {
-    let unseen = Contacts {
-        closed: [0; 18],
-        counts: [0; 144],
-    };
-    let mut k = d.keys;
-    k.repeating = 0;
-    k.clock = 0;
-    let mut e = d;
-    e.map = map;
-    e.contacts = unseen;
-    e.keys = k;
+    if r.handover {
+        return r;
+    }
+    let no_columns = [0; 18];
+    let no_counts = [0; 144];
+    *closed = no_columns;
+    *counts = no_counts;
+    let mut o = r.outgoing;
+    o.repeating = 0;
+    o.clock = 0;
+    let mut e = r;
+    e.outgoing = o;
     e.handover = true;
     e
 }
 
-// The map of a swap: during a handover nothing but the map is replaced.
-fn remap(d: Dock, map: [u8; 144]) -> Dock
-    ensures { λ r. ⌜ r ≡ remapped d map ⌝ }
+// The swap call in place, of a record in its range.
+pub fn swap_in_place(
+    map: &mut [u8; 144],
+    closed: &mut [u8; 18],
+    counts: &mut [u8; 144],
+    held: &mut [u8; 144],
+    types: &[u8; 105],
+    r: Rest,
+    new: &[u8],
+) -> Done
+    requires { ⌜ inRange (dockWith (now map) (now closed) (now counts) (now held) (now types) r) ≡ true ⌝ }
+    ensures { λ x. ⌜ answeredWith (now (map .exit)) (now (closed .exit)) (now (counts .exit)) (now (held .exit)) (now (types .entry)) x ≡ swapOf (dockWith (now (map .entry)) (now (closed .entry)) (now (counts .entry)) (now (held .entry)) (now (types .entry)) r) (now (new .entry)) ⌝ }
 {
-    if d.handover {
-        let mut e = d;
-        e.map = map;
-        return e;
+    if new.len() != 144 {
+        return Done {
+            answer: Answer::MapLength,
+            rest: r,
+        };
     }
-    open_handover(d, map)
+    let m = copied(new);
+    if !record::range::all_up_to(104, &m) {
+        return Done {
+            answer: Answer::MapEntry,
+            rest: r,
+        };
+    }
+    if has_double(&m) {
+        return Done {
+            answer: Answer::MapDouble,
+            rest: r,
+        };
+    }
+    *map = m;
+    let e = open_handover(closed, counts, r);
+    Done {
+        answer: Answer::Accepted,
+        rest: go_on(held, types, e),
+    }
 }
 
-// The swap call.
-pub fn swap(d: Dock, map: &[u8]) -> Answered
-    ensures { λ r. ⌜ r ≡ swapOf d (now (map .entry)) ⌝ }
+// The swap call: a record out of its range is refused first.
+pub fn swap(d: Dock, new: &[u8]) -> Answered
+    ensures { λ r. ⌜ r ≡ swapOf d (now (new .entry)) ⌝ }
 {
     if !record::range::in_range(d) {
         return Answered {
@@ -50,27 +88,27 @@ pub fn swap(d: Dock, map: &[u8]) -> Answered
             dock: d,
         };
     }
-    if map.len() != 144 {
-        return Answered {
-            answer: Answer::MapLength,
-            dock: d,
-        };
-    }
-    let m = copied(map);
-    if !record::range::all_up_to(104, &m) {
-        return Answered {
-            answer: Answer::MapEntry,
-            dock: d,
-        };
-    }
-    if has_double(&m) {
-        return Answered {
-            answer: Answer::MapDouble,
-            dock: d,
-        };
-    }
+    let contacts = d.contacts;
+    let keys = d.keys;
+    let mut map = d.map;
+    let mut closed = contacts.closed;
+    let mut counts = contacts.counts;
+    let mut held = keys.held;
+    let types = d.types;
+    let r = rest_of(d);
+    let x = swap_in_place(
+        &mut map,
+        &mut closed,
+        &mut counts,
+        &mut held,
+        &types,
+        r,
+        new,
+    );
+    let answer = x.answer;
+    let rest = x.rest;
     Answered {
-        answer: Answer::Accepted,
-        dock: close(remap(d, m)),
+        answer,
+        dock: dock_with(map, closed, counts, held, types, rest),
     }
 }

@@ -1,4 +1,4 @@
--- Whatever a line does, the map and the contacts keep their sizes. Assumes nothing.
+-- Whatever a line does, the contacts keep their sizes. Assumes nothing.
 use mathlib.Core.Path.{_≡_, sym, subst}
 use mathlib.Core.List.{List}
 use Prim.Native.Nat.{ℕ}
@@ -29,9 +29,9 @@ step-sizes d line s = by-kind (kindOf line) d line s
 -- The arrays that were lent.
 pub walked-lengths : (map closed counts held types : List ℕ) (r : Rest) (line map′ closed′ counts′ held′ types′ : List ℕ) (x : Walked)
     → walkedWith map′ closed′ counts′ held′ types′ x ≡ stepOf (dockWith map closed counts held types r) line
-    → length map ≡ 144 → length closed ≡ 18 → length counts ≡ 144
-    → (length map′ ≡ 144) × (length closed′ ≡ 18) × (length counts′ ≡ 144)
-walked-lengths map closed counts held types r line map′ closed′ counts′ held′ types′ x e a b c =
-    let s = step-sizes (dockWith map closed counts held types r) line (record { map = a; closed = b; counts = c }) in
+    → length closed ≡ 18 → length counts ≡ 144
+    → (length closed′ ≡ 18) × (length counts′ ≡ 144)
+walked-lengths map closed counts held types r line map′ closed′ counts′ held′ types′ x e b c =
+    let s = step-sizes (dockWith map closed counts held types r) line (record { closed = b; counts = c }) in
     let after : Sizes (walkedWith map′ closed′ counts′ held′ types′ x .dock) = subst (λ (y : Stepped). Sizes (y .dock)) (sym e) s in
-    (after .map, after .closed, after .counts)
+    (after .closed, after .counts)

@@ -7,17 +7,20 @@ use record::apart::dock_with;
 use record::apart::rest_of;
 use text::Kind;
 ghost use mathlib.Core.Path.{_≡_};
-ghost use mathlib.Core.Bool.{true};
+ghost use mathlib.Core.Bool.{true, false};
 ghost use mathlib.Core.List.{List};
 ghost use Prim.Native.Nat.{ℕ};
 ghost use lib.ListN.{length};
+ghost use Rattle.dock.specs.Closing.{restInRange};
 ghost use Rattle.dock.specs.Scan.{scanOf};
 ghost use Rattle.dock.specs.Swap.{swapOf};
 ghost use Rattle.dock.specs.Frame.{frameOf};
 ghost use Rattle.dock.specs.Read.{readOf};
 ghost use Rattle.text.specs.Digits.{allDigits, bytesFrom, frameIn};
 ghost use Rattle.record.specs.Apart.{dockWith};
-ghost use Rattle.lines.specs.Steps.{answerPrints, readPrints, steppedBy, steppedRead, walkedWith, stepOf};
+ghost use Rattle.record.specs.Range.{inRange};
+ghost use Rattle.record.specs.declared.Dock.{Dock};
+ghost use Rattle.lines.specs.Steps.{answerPrints, readPrints, stepped, steppedBy, steppedRead, walkedWith, stepOf};
 
 // What a line prints.
 pub enum Printed {
@@ -76,7 +79,7 @@ fn scan_line(
     r: Rest,
     line: &[u8],
 ) -> Walked
-    requires { ⌜ (length (now map) ≡ 144) × (length (now closed) ≡ 18) × (length (now counts) ≡ 144) × (length (now line) ≡ 36) × (allDigits (now line) ≡ true) ⌝ }
+    requires { ⌜ (inRange (dockWith (now map) (now closed) (now counts) (now held) (now types) r) ≡ true) × (length (now closed) ≡ 18) × (length (now counts) ≡ 144) × (length (now line) ≡ 36) × (allDigits (now line) ≡ true) ⌝ }
     ensures { λ x. ⌜ walkedWith (now (map .entry)) (now (closed .exit)) (now (counts .exit)) (now (held .exit)) (now (types .entry)) x ≡ steppedBy (scanOf (dockWith (now (map .entry)) (now (closed .entry)) (now (counts .entry)) (now (held .entry)) (now (types .entry)) r) (bytesFrom (now (line .entry)) 0 18)) ⌝ }
 {
     let scan = text::digits::scan_in(line);
@@ -90,11 +93,11 @@ fn scan_line(
 }
 
 // An empty line: a read.
-fn read_line(map: &[u8; 144], held: &mut [u8; 144], types: &[u8; 105], r: Rest) -> Walked
-    requires { ⌜ length (now map) ≡ 144 ⌝ }
-    ensures { λ x. ⌜ ((closed counts : List ℕ) → walkedWith (now (map .entry)) closed counts (now (held .exit)) (now (types .entry)) x ≡ steppedRead (readOf (dockWith (now (map .entry)) closed counts (now (held .entry)) (now (types .entry)) r))) ⌝ }
+fn read_line(held: &mut [u8; 144], types: &[u8; 105], r: Rest) -> Walked
+    requires { ⌜ restInRange (now held) (now types) r ≡ true ⌝ }
+    ensures { λ x. ⌜ ((map closed counts : List ℕ) → inRange (dockWith map closed counts (now (held .entry)) (now (types .entry)) r) ≡ true → walkedWith map closed counts (now (held .exit)) (now (types .entry)) x ≡ steppedRead (readOf (dockWith map closed counts (now (held .entry)) (now (types .entry)) r))) ⌝ }
 {
-    let x = dock::read::read_in_place(map, held, types, r);
+    let x = dock::read::read_in_place(held, types, r);
     let rest = x.rest;
     let given = x.given;
     Walked {
@@ -105,7 +108,6 @@ fn read_line(map: &[u8; 144], held: &mut [u8; 144], types: &[u8; 105], r: Rest) 
 
 // 3 digits: a host frame.
 fn frame_line(
-    map: &[u8; 144],
     closed: &mut [u8; 18],
     counts: &mut [u8; 144],
     held: &mut [u8; 144],
@@ -113,11 +115,11 @@ fn frame_line(
     r: Rest,
     line: &[u8],
 ) -> Walked
-    requires { ⌜ (length (now map) ≡ 144) × (length (now line) ≡ 3) × (allDigits (now line) ≡ true) ⌝ }
-    ensures { λ x. ⌜ walkedWith (now (map .entry)) (now (closed .exit)) (now (counts .exit)) (now (held .exit)) (now (types .exit)) x ≡ steppedBy (frameOf (dockWith (now (map .entry)) (now (closed .entry)) (now (counts .entry)) (now (held .entry)) (now (types .entry)) r) (frameIn (now (line .entry)))) ⌝ }
+    requires { ⌜ (restInRange (now held) (now types) r ≡ true) × (length (now line) ≡ 3) × (allDigits (now line) ≡ true) ⌝ }
+    ensures { λ x. ⌜ ((map : List ℕ) → inRange (dockWith map (now (closed .entry)) (now (counts .entry)) (now (held .entry)) (now (types .entry)) r) ≡ true → walkedWith map (now (closed .exit)) (now (counts .exit)) (now (held .exit)) (now (types .exit)) x ≡ steppedBy (frameOf (dockWith map (now (closed .entry)) (now (counts .entry)) (now (held .entry)) (now (types .entry)) r) (frameIn (now (line .entry))))) ⌝ }
 {
     let number = text::digits::frame_in(line);
-    let x = dock::frame::frame_in_place(map, closed, counts, held, types, r, number);
+    let x = dock::frame::frame_in_place(closed, counts, held, types, r, number);
     let rest = x.rest;
     let answer = x.answer;
     Walked {
@@ -126,57 +128,30 @@ fn frame_line(
     }
 }
 
-// A record laid out in the arrays that are lent, and its rest.
-fn lay_out(
-    map: &mut [u8; 144],
-    closed: &mut [u8; 18],
-    counts: &mut [u8; 144],
-    held: &mut [u8; 144],
-    types: &mut [u8; 105],
-    d: Dock,
-) -> Rest
-    ensures { λ r. ⌜ dockWith (now (map .exit)) (now (closed .exit)) (now (counts .exit)) (now (held .exit)) (now (types .exit)) r ≡ d ⌝ }
-{
-    let contacts = d.contacts;
-    let keys = d.keys;
-    let m = d.map;
-    let c = contacts.closed;
-    let n = contacts.counts;
-    let h = keys.held;
-    let t = d.types;
-    *map = m;
-    *closed = c;
-    *counts = n;
-    *held = h;
-    *types = t;
-    rest_of(d)
-}
-
 // 288 digits: a map to swap to.
 fn map_line(
     map: &mut [u8; 144],
     closed: &mut [u8; 18],
     counts: &mut [u8; 144],
     held: &mut [u8; 144],
-    types: &mut [u8; 105],
+    types: &[u8; 105],
     r: Rest,
     line: &[u8],
 ) -> Walked
-    requires { ⌜ (length (now line) ≡ 288) × (allDigits (now line) ≡ true) ⌝ }
-    ensures { λ x. ⌜ walkedWith (now (map .exit)) (now (closed .exit)) (now (counts .exit)) (now (held .exit)) (now (types .exit)) x ≡ steppedBy (swapOf (dockWith (now (map .entry)) (now (closed .entry)) (now (counts .entry)) (now (held .entry)) (now (types .entry)) r) (bytesFrom (now (line .entry)) 0 144)) ⌝ }
+    requires { ⌜ (inRange (dockWith (now map) (now closed) (now counts) (now held) (now types) r) ≡ true) × (length (now line) ≡ 288) × (allDigits (now line) ≡ true) ⌝ }
+    ensures { λ x. ⌜ walkedWith (now (map .exit)) (now (closed .exit)) (now (counts .exit)) (now (held .exit)) (now (types .entry)) x ≡ steppedBy (swapOf (dockWith (now (map .entry)) (now (closed .entry)) (now (counts .entry)) (now (held .entry)) (now (types .entry)) r) (bytesFrom (now (line .entry)) 0 144)) ⌝ }
 {
     let new = text::digits::map_in(line);
-    let d = dock_with(*map, *closed, *counts, *held, *types, r);
-    let x = dock::swap::swap(d, &new);
-    let after = x.dock;
+    let x = dock::swap::swap_in_place(map, closed, counts, held, types, r, &new);
+    let rest = x.rest;
     let answer = x.answer;
     Walked {
-        rest: lay_out(map, closed, counts, held, types, after),
+        rest,
         printed: answer_prints(answer),
     }
 }
 
-// One line, without its newline, in place: the arrays are lent, and only the rest is passed.
+// One line, without its newline, in place, of a record in its range: the arrays are lent, and only the rest is passed.
 pub fn step_in_place(
     map: &mut [u8; 144],
     closed: &mut [u8; 18],
@@ -186,14 +161,14 @@ pub fn step_in_place(
     r: Rest,
     line: &[u8],
 ) -> Walked
-    requires { ⌜ (length (now map) ≡ 144) × (length (now closed) ≡ 18) × (length (now counts) ≡ 144) ⌝ }
+    requires { ⌜ (inRange (dockWith (now map) (now closed) (now counts) (now held) (now types) r) ≡ true) × (length (now closed) ≡ 18) × (length (now counts) ≡ 144) ⌝ }
     ensures { λ x. ⌜ walkedWith (now (map .exit)) (now (closed .exit)) (now (counts .exit)) (now (held .exit)) (now (types .exit)) x ≡ stepOf (dockWith (now (map .entry)) (now (closed .entry)) (now (counts .entry)) (now (held .entry)) (now (types .entry)) r) (now (line .entry)) ⌝ }
 {
     let kind = text::kinds::kind_of(line);
     match kind {
         Kind::Scan => scan_line(map, closed, counts, held, types, r, line),
-        Kind::Read => read_line(map, held, types, r),
-        Kind::Frame => frame_line(map, closed, counts, held, types, r, line),
+        Kind::Read => read_line(held, types, r),
+        Kind::Frame => frame_line(closed, counts, held, types, r, line),
         Kind::Map => map_line(map, closed, counts, held, types, r, line),
         Kind::Malformed => Walked {
             rest: r,
@@ -202,10 +177,30 @@ pub fn step_in_place(
     }
 }
 
-// One line, without its newline.
+// What a line prints if the record is out of its range: a malformed one is told first.
+fn refusal_of(line: &[u8]) -> Printed
+    ensures { λ p. ⌜ ((d : Dock) → inRange d ≡ false → stepped d p ≡ stepOf d (now (line .entry))) ⌝ }
+{
+    let kind = text::kinds::kind_of(line);
+    match kind {
+        Kind::Scan => Printed::RefusalLine(9),
+        Kind::Read => Printed::RefusalLine(9),
+        Kind::Frame => Printed::RefusalLine(9),
+        Kind::Map => Printed::RefusalLine(9),
+        Kind::Malformed => Printed::RefusalLine(8),
+    }
+}
+
+// One line, without its newline, of any record.
 pub fn step(d: Dock, line: &[u8]) -> Stepped
     ensures { λ r. ⌜ r ≡ stepOf d (now (line .entry)) ⌝ }
 {
+    if !record::range::in_range(d) {
+        return Stepped {
+            dock: d,
+            printed: refusal_of(line),
+        };
+    }
     let contacts = d.contacts;
     let keys = d.keys;
     let mut map = d.map;

@@ -1,33 +1,38 @@
+-- `bench::run` is safe: the record is taken apart, the lines run in place, and the record put together is in range. Assumes nothing.
+use mathlib.Core.Path.{ap, _∙_}
 use borrow.Author.Needs.{needs}
+use Rattle.record.specs.declared.Rest.{Rest}
+use Rattle.record.specs.Apart.{dockWith}
+use Rattle.record.specs.Range.{inRange}
 use Rattle.bench.proofs.run.Statement.{statement}
 use Rattle.bench.proofs.run.Tie as tie
-use Rattle.bench.proofs.run.Reads as reads
-use Rattle.bench.proofs.run.Lts as lts
-use Rattle.bench.proofs.run_in_place.Reads as run-in-place-reads
-use Rattle.record.proofs.apart.dock_with.Reads as dock-with-reads
-use Rattle.record.proofs.apart.rest_of.Reads as rest-of-reads
 
--- src/main.rt:101:9
 rest-of-requires : tie.Need-rest-of-requires
 rest-of-requires c κs = search needs
 
--- src/main.rt:102:9
 run-in-place-requires : tie.Need-run-in-place-requires
 run-in-place-requires c κs =
+    let rest = c .before .before .before .before .before .before in
     let s = c .before .before .before .before .before .before .before .before .before .before .before .before .before .before .before .before in
-    (s .pre .0, s .pre .1, search (needs, s .good .0), search (needs, s .good .0), search (needs, s .good .0 .1 .1 .1))
+    let d = s .args .d in
+    let contacts = s .good .0 .1 .1 .1 .0 in (
+      s .pre .1,
+      s .pre .2,
+      ap (λ (r : Rest). inRange (dockWith (d .map) (d .contacts .closed) (d .contacts .counts) (d .keys .held) (d .types) r)) (rest .rest-of .ensures) ∙ s .pre .0,
+      search (needs, contacts),
+      search (needs, contacts),
+    )
 
--- src/main.rt:105:15
 dock-with-requires : tie.Need-dock-with-requires
 dock-with-requires c κs = search needs
 
--- src/main.rt:90:1
 same-length : tie.Need-same-length
 same-length c = search needs
 
--- src/main.rt:90:1
 returns : tie.Need-returns
-returns c = search needs
+returns c =
+    let x = c .before .before .before .before .run-in-place in
+    (x .ensures .0, x .ensures .1, ap inRange (c .dock-with .ensures) ∙ x .ensures .2)
 
 pub run-spec : {M : Type 1} → statement M
 run-spec =

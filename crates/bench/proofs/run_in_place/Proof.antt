@@ -1,11 +1,15 @@
 -- `bench::run_in_place` is safe and ends. After the lines up to `at`, at most four characters were written for each character used; each turn
--- uses at least a newline. The arrays of the record keep their lengths. Assumes nothing.
+-- uses at least a newline. The record stays in range, and its contacts keep their sizes. Assumes nothing.
 use mathlib.Core.Path.{_≡_}
+use mathlib.Core.Bool.{true}
 use Prim.Native.Nat.{_≤_, _+_, _-_, _*_}
 use native.Mathlib.Omega.{arith}
 use borrow.Author.Needs.{needs}
 use lib.ListN.{length}
+use Rattle.lines.proofs.InRange.{walked-in-range}
 use Rattle.lines.proofs.Lengths.{walked-lengths}
+use Rattle.record.specs.Apart.{dockWith}
+use Rattle.record.specs.Range.{inRange}
 use Rattle.text.proofs.Newlines.{line-end-after, line-end-within}
 use Rattle.bench.proofs.run_in_place.Statement.{statement}
 use Rattle.bench.proofs.run_in_place.Tie as tie
@@ -13,7 +17,7 @@ use Rattle.bench.proofs.run_in_place.Tie as tie
 abbrev Inv-loop : tie.InvT-loop
 Inv-loop map₀ closed₀ counts₀ held₀ types₀ text out₀ rest₀ at₀ written₀ end₀ map closed counts held types out rest at written end =
     (at ≤ end) × (end ≤ length text) × (written ≤ 4 * at) × (length out ≡ 65536)
-    × (length map ≡ 144) × (length closed ≡ 18) × (length counts ≡ 144)
+    × (inRange (dockWith map closed counts held types rest) ≡ true) × (length closed ≡ 18) × (length counts ≡ 144)
 
 abbrev μ-loop : tie.MeasureT-loop
 μ-loop map₀ closed₀ counts₀ held₀ types₀ text out₀ rest₀ at₀ written₀ end₀ map closed counts held types out rest at written end =
@@ -66,15 +70,17 @@ loop-again c =
     let inside : e + 1 ≤ length t = omega (arith, c .before .before .before .before .before .before .before .before .before .before .before .before .before .loop-test .taken) in
     let x = c .before .before .before .before .before .before .step-in-place in
     let i = l .loop .inv in
+    let kept = walked-in-range (l .loop .map) (l .loop .closed) (l .loop .counts) (l .loop .held) (l .loop .types) (l .loop .rest) _
+    (x .last .0) (x .last .1 .0) (x .last .1 .1 .0) (x .last .1 .1 .1 .0) (x .last .1 .1 .1 .1 .0) (x .result) (x .ensures) (i .4) in
     let sizes = walked-lengths (l .loop .map) (l .loop .closed) (l .loop .counts) (l .loop .held) (l .loop .types) (l .loop .rest) _
-    (x .last .0) (x .last .1 .0) (x .last .1 .1 .0) (x .last .1 .1 .1 .0) (x .last .1 .1 .1 .1 .0) (x .result) (x .ensures) (i .4) (i .5) (i .6) in (
+    (x .last .0) (x .last .1 .0) (x .last .1 .1 .0) (x .last .1 .1 .1 .0) (x .last .1 .1 .1 .1 .0) (x .result) (x .ensures) (i .5) (i .6) in (
       omega (arith, c .end-of2 .ensures, line-end-after t (e + 1)),
       omega (arith, c .end-of2 .ensures, line-end-within t (e + 1) inside),
       omega arith,
       search needs,
+      kept,
       sizes .0,
       sizes .1,
-      sizes .2,
     )
 
 same-length : tie.Need-same-length Inv-loop μ-loop
@@ -83,7 +89,8 @@ same-length c = omega (arith, c .before .loop .inv .3, c .before .before .before
 returns : tie.Need-returns Inv-loop μ-loop
 returns c =
     let i = c .before .loop .inv in
-    omega (arith, i .0, i .1, i .2, c .before .before .before .before .before .pre .0)
+    let short = c .before .before .before .before .before .pre .0 in
+    (omega (arith, i .0, i .1), omega (arith, i .0, i .1, i .2, short), i .4)
 
 pub run-in-place-spec : {M : Type 1} → statement M
 run-in-place-spec =

@@ -1,13 +1,15 @@
--- `bench::serve` is safe and ends: the characters kept are few, the buffers keep their lengths, and the turns run down. Assumes nothing.
+-- `bench::serve` is safe and ends: the record is in range, the characters kept are few, the buffers keep their lengths, and the turns run down. Assumes nothing.
 use mathlib.Core.Path.{_≡_}
+use mathlib.Core.Bool.{true}
 use Prim.Native.Nat.{_≤_}
 use borrow.Author.Needs.{needs}
 use lib.ListN.{length}
+use Rattle.record.specs.Range.{inRange}
 use Rattle.bench.proofs.serve.Statement.{statement}
 use Rattle.bench.proofs.serve.Tie as tie
 
 abbrev Inv-loop : tie.InvT-loop
-Inv-loop input₀ out₀ dock₀ kept₀ turns₀ input out dock kept turns = (kept ≤ 289) × (length input ≡ 16384) × (length out ≡ 65536)
+Inv-loop input₀ out₀ dock₀ kept₀ turns₀ input out dock kept turns = (inRange dock ≡ true) × (kept ≤ 289) × (length input ≡ 16384) × (length out ≡ 65536)
 
 abbrev μ-loop : tie.MeasureT-loop
 μ-loop input₀ out₀ dock₀ kept₀ turns₀ input out dock kept turns = turns

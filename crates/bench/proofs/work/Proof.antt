@@ -1,4 +1,4 @@
--- `bench::work` is safe: the lines at hand fit, and what they print does. Assumes nothing.
+-- `bench::work` is safe: the lines at hand fit, what they print does, and the record stays in range. Assumes nothing.
 use mathlib.Core.Path.{_≡_, sym}
 use native.Mathlib.Omega.{arith}
 use borrow.Author.Needs.{needs}
@@ -14,7 +14,9 @@ slice-aggregate-run : tie.Need-slice-aggregate-run
 slice-aggregate-run c = sym (length-take-le _ _ (omega arith))
 
 run-requires : tie.Need-run-requires
-run-requires c κs = (omega (arith, length-take-le (c .before .before .before .before .args .end) (c .before .before .before .before .args .input .now) (omega arith)), search needs)
+run-requires c κs =
+    let s = c .before .before .before .before in
+    (s .pre .0, omega (arith, length-take-le (s .args .end) (s .args .input .now) (omega arith)), search needs)
 
 slice-reshare-prefix-write-all : tie.Need-slice-reshare-prefix-write-all
 slice-reshare-prefix-write-all c = search needs

@@ -1,5 +1,5 @@
 -- `lines::frame_line` meets its contract: it is the frame call on the number in the line, printed. Assumes nothing.
-use mathlib.Core.Path.{_≡_, ap, _∙_}
+use mathlib.Core.Path.{ap, _∙_}
 use Prim.Native.Nat.{ℕ}
 use borrow.Author.Needs.{needs}
 use Rattle.dock.specs.Answers.{answeredWith}
@@ -19,12 +19,12 @@ answer-prints-requires : tie.Need-answer-prints-requires
 answer-prints-requires c κs = search needs
 
 returns : tie.Need-returns
-returns c =
+returns c = λ map known.
     let x = c .before .before .frame-in-place in
     let digits = c .before .before .before .before .before .before .before in
     let a = digits .before .before .args in
-    answer-steps (answeredWith (a .map .now) (x .last .1 .0) (x .last .1 .1 .0) (x .last .1 .1 .1 .0) (x .last .1 .1 .1 .1 .0) (x .result)) _ _
-    (x .ensures ∙ ap (λ (n : ℕ). frameOf (dockWith (a .map .now) (a .closed .now) (a .counts .now) (a .held .now) (a .types .now) (a .r)) n) (digits .frame-in .ensures))
+    answer-steps (answeredWith map (x .last .0) (x .last .1 .0) (x .last .1 .1 .0) (x .last .1 .1 .1 .0) (x .result)) _ _
+    (x .ensures map known ∙ ap (λ (n : ℕ). frameOf (dockWith map (a .closed .now) (a .counts .now) (a .held .now) (a .types .now) (a .r)) n) (digits .frame-in .ensures))
     (c .answer-prints .ensures)
 
 pub frame-line-spec : {M : Type 1} → statement M

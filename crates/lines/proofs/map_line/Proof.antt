@@ -1,11 +1,11 @@
 -- `lines::map_line` meets its contract: it is the swap call on the map in the line, printed. Assumes nothing.
-use mathlib.Core.Path.{_≡_, ap, ap₂, _∙_}
+use mathlib.Core.Path.{ap, _∙_}
 use mathlib.Core.List.{List}
 use Prim.Native.Nat.{ℕ}
 use borrow.Author.Needs.{needs}
+use Rattle.dock.specs.Answers.{answeredWith}
 use Rattle.dock.specs.Swap.{swapOf}
-use Rattle.record.specs.declared.Dock.{Dock}
-use Rattle.lines.specs.Steps.{stepped}
+use Rattle.record.specs.Apart.{dockWith}
 use Rattle.lines.proofs.Printing.{answer-steps}
 use Rattle.lines.proofs.map_line.Statement.{statement}
 use Rattle.lines.proofs.map_line.Tie as tie
@@ -13,29 +13,22 @@ use Rattle.lines.proofs.map_line.Tie as tie
 map-in-requires : tie.Need-map-in-requires
 map-in-requires c κs = search needs
 
-dock-with-requires : tie.Need-dock-with-requires
-dock-with-requires c κs = search needs
+slice-aggregate-swap-in-place : tie.Need-slice-aggregate-swap-in-place
+slice-aggregate-swap-in-place c = search needs
 
-slice-aggregate-swap : tie.Need-slice-aggregate-swap
-slice-aggregate-swap c = search needs
-
-swap-requires : tie.Need-swap-requires
-swap-requires c κs = search needs
-
-lay-out-requires : tie.Need-lay-out-requires
-lay-out-requires c κs = search needs
+swap-in-place-requires : tie.Need-swap-in-place-requires
+swap-in-place-requires c κs = search needs
 
 answer-prints-requires : tie.Need-answer-prints-requires
 answer-prints-requires c κs = search needs
 
 returns : tie.Need-returns
 returns c =
-    let out = c .before .lay-out in
-    let x = c .before .before .before .before .before .before .before .before .swap in
-    let whole = c .before .before .before .before .before .before .before .before .before .before in
-    ap (λ (d : Dock). stepped d (c .answer-prints .result)) (out .ensures)
-    ∙ answer-steps _ _ _
-    (x .ensures ∙ ap₂ (λ (d : Dock) (n : List ℕ). swapOf d n) (whole .dock-with .ensures) (c .before .before .before .before .before .before .before .before .before .before .before .before .before .before .before .before .map-in .ensures))
+    let x = c .before .before .swap-in-place in
+    let digits = c .before .before .before .before .before .before .before .before in
+    let a = digits .before .before .args in
+    answer-steps (answeredWith (x .last .0) (x .last .1 .0) (x .last .1 .1 .0) (x .last .1 .1 .1 .0) (a .types .now) (x .result)) _ _
+    (x .ensures ∙ ap (λ (m : List ℕ). swapOf (dockWith (a .map .now) (a .closed .now) (a .counts .now) (a .held .now) (a .types .now) (a .r)) m) (digits .map-in .ensures))
     (c .answer-prints .ensures)
 
 pub map-line-spec : {M : Type 1} → statement M
@@ -43,9 +36,7 @@ map-line-spec =
     tie.close
     (tie.spec
     map-in-requires
-    dock-with-requires
-    slice-aggregate-swap
-    swap-requires
-    lay-out-requires
+    slice-aggregate-swap-in-place
+    swap-in-place-requires
     answer-prints-requires
     returns)

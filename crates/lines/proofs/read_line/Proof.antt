@@ -12,10 +12,10 @@ read-prints-requires : tie.Need-read-prints-requires
 read-prints-requires c κs = search needs
 
 returns : tie.Need-returns
-returns c = λ closed counts.
+returns c = λ map closed counts known.
     let x = c .before .before .read-in-place in
     let a = c .before .before .before .before .args in
-    read-steps (takenWith (a .map .now) closed counts (x .last .1 .0) (a .types .now) (x .result)) _ _ (x .ensures closed counts) (c .read-prints .ensures)
+    read-steps (takenWith map closed counts (x .last .0) (a .types .now) (x .result)) _ _ (x .ensures map closed counts known) (c .read-prints .ensures)
 
 pub read-line-spec : {M : Type 1} → statement M
 read-line-spec = tie.close (tie.spec read-in-place-requires read-prints-requires returns)

@@ -1,6 +1,8 @@
--- `lines::step` meets its contract: the record is taken apart, the line run in place, and the record put together. Assumes nothing.
-use mathlib.Core.Path.{_≡_, ap, _∙_}
+-- `lines::step` meets its contract: a record in its range is taken apart, the line run in place, and the record put together. Assumes nothing.
+use mathlib.Core.Path.{ap, sym, _∙_}
 use borrow.Author.Needs.{needs}
+use borrow.Author.Tests.{not-true, not-false}
+use Rattle.dock.proofs.InRange.{apart-in-range}
 use Rattle.record.specs.declared.Dock.{Dock}
 use Rattle.record.specs.declared.Rest.{Rest}
 use Rattle.record.specs.Apart.{dockWith}
@@ -8,26 +10,51 @@ use Rattle.lines.specs.Steps.{stepped, stepOf}
 use Rattle.lines.proofs.step.Statement.{statement}
 use Rattle.lines.proofs.step.Tie as tie
 
+in-range-requires : tie.Need-in-range-requires
+in-range-requires c κs = search needs
+
+refusal-of-requires : tie.Need-refusal-of-requires
+refusal-of-requires c κs = search needs
+
+returns : tie.Need-returns
+returns c =
+    let looked = c .before in
+    c .refusal-of .ensures (looked .before .before .before .args .d) (sym (looked .before .in-range .ensures) ∙ not-true _ (looked .if1 .taken))
+
 rest-of-requires : tie.Need-rest-of-requires
 rest-of-requires c κs = search needs
 
 step-in-place-requires : tie.Need-step-in-place-requires
 step-in-place-requires c κs =
-    let good = c .before .before .before .before .before .before .before .before .before .before .before .before .before .before .good in
-    (search (needs, good), search (needs, good), search (needs, good))
+    let rest = c .before .before .before .before .before in
+    let looked = rest .before .before .before .before .before .before .before .before in
+    let s = looked .before .before .before in
+    let known = apart-in-range (s .args .d) _ _ (rest .rest-of .ensures) (looked .before .in-range .ensures) (not-false _ (looked .if1 .left)) in
+    let contacts = s .good .0 .1 .1 .1 .0 in
+    (known, search (needs, contacts), search (needs, contacts))
 
 dock-with-requires : tie.Need-dock-with-requires
 dock-with-requires c κs = search needs
 
-returns : tie.Need-returns
-returns c =
+returns-2 : tie.Need-returns-2
+returns-2 c =
     let x = c .before .before .step-in-place in
     let rest = c .before .before .before .before .before .before .before .before in
-    let a = rest .before .before .before .before .before .before .before .before .before .args in
+    let looked = rest .before .before .before .before .before .before .before .before in
+    let a = looked .before .before .before .args in
     let d = a .d in
     ap (λ (e : Dock). stepped e (x .result .printed)) (c .dock-with .ensures)
     ∙ x .ensures
     ∙ ap (λ (r : Rest). stepOf (dockWith (d .map) (d .contacts .closed) (d .contacts .counts) (d .keys .held) (d .types) r) (a .line .now)) (rest .rest-of .ensures)
 
 pub step-spec : {M : Type 1} → statement M
-step-spec = tie.close (tie.spec rest-of-requires step-in-place-requires dock-with-requires returns)
+step-spec =
+    tie.close
+    (tie.spec
+    in-range-requires
+    refusal-of-requires
+    returns
+    rest-of-requires
+    step-in-place-requires
+    dock-with-requires
+    returns-2)

@@ -1,11 +1,11 @@
 -- `lines::step_in_place` meets its contract: the kind of the line decides, and gives the digits that each call asks for. Assumes nothing.
-use mathlib.Core.Path.{_≡_, refl, sym, _∙_}
+use mathlib.Core.Path.{refl, sym, _∙_}
 use borrow.Author.Needs.{needs}
+use Rattle.dock.proofs.InRange.{rest-in-range}
 use Rattle.text.specs.declared.Kind.the-variants.{Read, Frame, Scan, Map, Malformed}
 use Rattle.text.proofs.Lengths.{scan-is, frame-is, map-is}
 use Rattle.lines.proofs.Printing.{by-kind}
 use Rattle.record.specs.Apart.{dockWith}
-use Rattle.lines.specs.Steps.{walkedWith}
 use Rattle.lines.proofs.step_in_place.Statement.{statement}
 use Rattle.lines.proofs.step_in_place.Tie as tie
 
@@ -26,17 +26,21 @@ enum-told-2 : tie.Need-enum-told-2
 enum-told-2 c = search needs
 
 read-line-requires : tie.Need-read-line-requires
-read-line-requires c κs = search needs
+read-line-requires c κs =
+    let s = c .before .before .before .before .before .before in
+    let a = s .args in
+    rest-in-range (a .map .now) (a .closed .now) (a .counts .now) (a .held .now) (a .types .now) (a .r) (s .pre .0)
 
 enum-told-3 : tie.Need-enum-told-3
 enum-told-3 c = search needs
 
 frame-line-requires : tie.Need-frame-line-requires
 frame-line-requires c κs =
-    let told = c .before .before .before .before .before in
+    let told = c .before .before .before .before in
     let s = told .before .before .before .before in
-    let is = frame-is (s .args .line .now) (sym (told .before .before .kind-of .ensures) ∙ told .enum-told3 .given .1) in
-    (s .pre .0, is .0, is .1)
+    let a = s .args in
+    let is = frame-is (a .line .now) (sym (told .before .before .kind-of .ensures) ∙ told .enum-told3 .given .1) in
+    (rest-in-range (a .map .now) (a .closed .now) (a .counts .now) (a .held .now) (a .types .now) (a .r) (s .pre .0), is .0, is .1)
 
 enum-told-4 : tie.Need-enum-told-4
 enum-told-4 c = search needs
@@ -44,7 +48,9 @@ enum-told-4 c = search needs
 map-line-requires : tie.Need-map-line-requires
 map-line-requires c κs =
     let told = c .before .before .before .before .before in
-    map-is (told .before .before .before .before .args .line .now) (sym (told .before .before .kind-of .ensures) ∙ told .enum-told4 .given .1)
+    let s = told .before .before .before .before in
+    let is = map-is (s .args .line .now) (sym (told .before .before .kind-of .ensures) ∙ told .enum-told4 .given .1) in
+    (s .pre .0, is .0, is .1)
 
 enum-told-5 : tie.Need-enum-told-5
 enum-told-5 c = search needs
@@ -57,16 +63,19 @@ returns c =
 
 returns-2 : tie.Need-returns-2
 returns-2 c =
-    let told = c .before .before .before .before in
-    let a = told .before .before .before .before .args in
+    let told = c .before .before .before in
+    let s = told .before .before .before .before in
+    let a = s .args in
     by-kind (dockWith (a .map .now) (a .closed .now) (a .counts .now) (a .held .now) (a .types .now) (a .r)) _ _ Read _ (told .before .before .kind-of .ensures) (told .enum-told2 .given .1)
-    (c .read-line .ensures (a .closed .now) (a .counts .now))
+    (c .read-line .ensures (a .map .now) (a .closed .now) (a .counts .now) (s .pre .0))
 
 returns-3 : tie.Need-returns-3
 returns-3 c =
-    let told = c .before .before .before .before .before .before in
-    let a = told .before .before .before .before .args in
-    by-kind (dockWith (a .map .now) (a .closed .now) (a .counts .now) (a .held .now) (a .types .now) (a .r)) _ _ Frame _ (told .before .before .kind-of .ensures) (told .enum-told3 .given .1) (c .frame-line .ensures)
+    let told = c .before .before .before .before .before in
+    let s = told .before .before .before .before in
+    let a = s .args in
+    by-kind (dockWith (a .map .now) (a .closed .now) (a .counts .now) (a .held .now) (a .types .now) (a .r)) _ _ Frame _ (told .before .before .kind-of .ensures) (told .enum-told3 .given .1)
+    (c .frame-line .ensures (a .map .now) (s .pre .0))
 
 returns-4 : tie.Need-returns-4
 returns-4 c =

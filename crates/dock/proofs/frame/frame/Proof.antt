@@ -1,35 +1,56 @@
--- `dock::frame::frame` meets its contract: the record is taken apart, the frame is taken in place, and it is put together. Assumes nothing.
-use mathlib.Core.Path.{_≡_, ap, _∙_}
+-- `dock::frame::frame` meets its contract: a record in its range is taken apart, the frame is taken in place, and put together. Assumes nothing.
+use mathlib.Core.Path.{ap, sym, _∙_}
 use borrow.Author.Needs.{needs}
+use borrow.Author.Tests.{not-true, not-false}
 use Rattle.record.specs.declared.Dock.{Dock}
 use Rattle.record.specs.declared.Rest.{Rest}
 use Rattle.record.specs.Apart.{dockWith}
 use Rattle.dock.specs.Answers.{answered}
 use Rattle.dock.specs.Frame.{frameOf}
+use Rattle.dock.proofs.InRange.{rest-in-range, apart-in-range}
+use Rattle.dock.proofs.Framing.{frame-refused}
 use Rattle.dock.proofs.frame.frame.Statement.{statement}
 use Rattle.dock.proofs.frame.frame.Tie as tie
+
+in-range-requires : tie.Need-in-range-requires
+in-range-requires c κs = search needs
+
+returns : tie.Need-returns
+returns c = frame-refused _ _ (sym (c .before .in-range .ensures) ∙ not-true _ (c .if1 .taken))
 
 rest-of-requires : tie.Need-rest-of-requires
 rest-of-requires c κs = search needs
 
 frame-in-place-requires : tie.Need-frame-in-place-requires
 frame-in-place-requires c κs =
-    let good = c .before .before .before .before .before .before .before .before .before .before .before .before .before .good in
-    search (needs, good)
+    let rest = c .before .before .before .before in
+    let looked = rest .before .before .before .before .before .before .before .before in
+    let s = looked .before .before in
+    let d = s .args .d in
+    let known = apart-in-range d _ _ (rest .rest-of .ensures) (looked .before .in-range .ensures) (not-false _ (looked .if1 .left)) in
+    rest-in-range (d .map) (d .contacts .closed) (d .contacts .counts) (d .keys .held) (d .types) _ known
 
 dock-with-requires : tie.Need-dock-with-requires
 dock-with-requires c κs = search needs
 
-returns : tie.Need-returns
-returns c =
+returns-2 : tie.Need-returns-2
+returns-2 c =
     let x = c .before .before .frame-in-place in
-    let rest = c .before .before .before .before .before .before .before .before in
-    let a = rest .before .before .before .before .before .before .before .before .args in
+    let rest = c .before .before .before .before .before .before .before in
+    let looked = rest .before .before .before .before .before .before .before .before in
+    let a = looked .before .before .args in
     let d = a .d in
     ap (λ (e : Dock). answered (x .result .answer) e) (c .dock-with .ensures)
-    ∙ x .ensures
+    ∙ x .ensures (d .map) (apart-in-range d _ _ (rest .rest-of .ensures) (looked .before .in-range .ensures) (not-false _ (looked .if1 .left)))
     ∙ ap (λ (r : Rest). frameOf (dockWith (d .map) (d .contacts .closed) (d .contacts .counts) (d .keys .held) (d .types) r) (a .number)) (rest .rest-of .ensures)
 
 pub frame-spec : {M : Type 1} → statement M
 frame-spec =
-    tie.close (tie.spec rest-of-requires frame-in-place-requires dock-with-requires returns)
+    tie.close
+    (tie.spec
+    in-range-requires
+    returns
+    rest-of-requires
+    frame-in-place-requires
+    dock-with-requires
+    returns-2)

@@ -1,31 +1,56 @@
--- `dock::read::read` meets its contract: the record is taken apart, read in place and put together. Assumes nothing.
-use mathlib.Core.Path.{_≡_, ap, _∙_}
+-- `dock::read::read` meets its contract: a record in its range is taken apart, read in place and put together. Assumes nothing.
+use mathlib.Core.Path.{ap, sym, _∙_}
 use borrow.Author.Needs.{needs}
+use borrow.Author.Tests.{not-true, not-false}
 use Rattle.record.specs.declared.Dock.{Dock}
 use Rattle.record.specs.declared.Rest.{Rest}
 use Rattle.record.specs.Apart.{dockWith}
 use Rattle.dock.specs.Answers.{taken}
 use Rattle.dock.specs.Read.{readOf}
+use Rattle.dock.proofs.InRange.{rest-in-range, apart-in-range}
+use Rattle.dock.proofs.Reading.{read-refused}
 use Rattle.dock.proofs.read.read.Statement.{statement}
 use Rattle.dock.proofs.read.read.Tie as tie
+
+in-range-requires : tie.Need-in-range-requires
+in-range-requires c κs = search needs
+
+returns : tie.Need-returns
+returns c = read-refused _ (sym (c .before .in-range .ensures) ∙ not-true _ (c .if1 .taken))
 
 rest-of-requires : tie.Need-rest-of-requires
 rest-of-requires c κs = search needs
 
 read-in-place-requires : tie.Need-read-in-place-requires
-read-in-place-requires c κs = search needs
+read-in-place-requires c κs =
+    let rest = c .before .before in
+    let looked = rest .before .before .before .before .before .before .before .before in
+    let s = looked .before .before in
+    let d = s .args .d in
+    let known = apart-in-range d _ _ (rest .rest-of .ensures) (looked .before .in-range .ensures) (not-false _ (looked .if1 .left)) in
+    rest-in-range (d .map) (d .contacts .closed) (d .contacts .counts) (d .keys .held) (d .types) _ known
 
 dock-with-requires : tie.Need-dock-with-requires
 dock-with-requires c κs = search needs
 
-returns : tie.Need-returns
-returns c =
+returns-2 : tie.Need-returns-2
+returns-2 c =
     let x = c .before .before .read-in-place in
-    let rest = c .before .before .before .before .before .before in
-    let d = rest .before .before .before .before .before .before .before .before .args .d in
+    let rest = c .before .before .before .before .before in
+    let looked = rest .before .before .before .before .before .before .before .before in
+    let a = looked .before .before .args in
+    let d = a .d in
     ap (λ (e : Dock). taken (x .result .given) e) (c .dock-with .ensures)
-    ∙ x .ensures (d .contacts .closed) (d .contacts .counts)
+    ∙ x .ensures (d .map) (d .contacts .closed) (d .contacts .counts) (apart-in-range d _ _ (rest .rest-of .ensures) (looked .before .in-range .ensures) (not-false _ (looked .if1 .left)))
     ∙ ap (λ (r : Rest). readOf (dockWith (d .map) (d .contacts .closed) (d .contacts .counts) (d .keys .held) (d .types) r)) (rest .rest-of .ensures)
 
 pub read-spec : {M : Type 1} → statement M
-read-spec = tie.close (tie.spec rest-of-requires read-in-place-requires dock-with-requires returns)
+read-spec =
+    tie.close
+    (tie.spec
+    in-range-requires
+    returns
+    rest-of-requires
+    read-in-place-requires
+    dock-with-requires
+    returns-2)

@@ -1,12 +1,20 @@
--- `dock::swap::open_handover` meets its contract: the parts are those of the definition. Assumes nothing.
-use mathlib.Core.Path.{refl}
+-- `dock::swap::open_handover` meets its contract: whether a handover is open decides what the definition gives. Assumes nothing.
+use Rattle.record.specs.Apart.{dockWith}
 use Rattle.dock.specs.Swap.{opened}
+use Rattle.dock.proofs.Swapping.{second-swap, first-swap}
 use Rattle.dock.proofs.swap.open_handover.Statement.{statement}
 use Rattle.dock.proofs.swap.open_handover.Tie as tie
 
 returns : tie.Need-returns
+returns c = λ map held types new.
+    let a = c .before .args in
+    second-swap (dockWith map (a .closed .now) (a .counts .now) held types (a .r)) new (c .if1 .taken)
+
+returns-2 : tie.Need-returns-2
 unfolding opened
-returns c = refl
+returns-2 c = λ map held types new.
+    let a = c .before .before .args in
+    first-swap (dockWith map (a .closed .now) (a .counts .now) held types (a .r)) new (c .before .if1 .left)
 
 pub open-handover-spec : {M : Type 1} → statement M
-open-handover-spec = tie.close (tie.spec returns)
+open-handover-spec = tie.close (tie.spec returns returns-2)
