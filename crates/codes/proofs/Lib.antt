@@ -3,3 +3,4 @@ pub mod Adding
 pub mod AtOnce
 pub mod Lengths
 pub mod PlainKeys
+pub mod OneForm

@@ -5,15 +5,17 @@ use Prim.Native.Nat.{ℕ, _<_}
 use native.Mathlib.Omega.{arith}
 use borrow.Author.Tests.{le-leb, lt-leb, ne-eqb}
 use Rattle.codes.specs.declared.Form.the-variants.{Plain}
-use Rattle.codes.specs.Codes.{isCursor, formOf}
+use Rattle.codes.specs.Codes.{isCursor, isKeypadSlash, isPrint, isPause, formOf}
 
 module _ (set key mods : ℕ) (lock : Bool) (n : set ≡ 3 → ⊥) where
-  no-form : isCursor key ≡ false → (key ≡ 70 → ⊥) → (key ≡ 99 → ⊥) → (key ≡ 101 → ⊥) → Plain ≡ formOf set key mods lock
+  pub no-form : isCursor key ≡ false → isKeypadSlash key ≡ false → isPrint key ≡ false → isPause key ≡ false → Plain ≡ formOf set key mods lock
   unfolding formOf
-  no-form c slash print pause = rw (ne-eqb _ _ n, c, ne-eqb _ _ slash, ne-eqb _ _ print, ne-eqb _ _ pause)
+  no-form cursor slash print pause = rw (ne-eqb _ _ n, cursor, slash, print, pause)
 
   pub below-cursors : key < 59 → Plain ≡ formOf set key mods lock
-  below-cursors h = no-form (rw (lt-leb 59 key h)) (λ e. omega arith) (λ e. omega arith) (λ e. omega arith)
+  below-cursors h =
+      no-form (rw (lt-leb 59 key h)) (ne-eqb key 70 (λ e. omega arith)) (ne-eqb key 99 (λ e. omega arith)) (ne-eqb key 101 (λ e. omega arith))
 
   pub above-cursors : 68 < key → (key ≡ 70 → ⊥) → (key ≡ 99 → ⊥) → (key ≡ 101 → ⊥) → Plain ≡ formOf set key mods lock
-  above-cursors h = no-form (rw (le-leb 59 key (omega arith), lt-leb key 68 h))
+  above-cursors h slash print pause =
+      no-form (rw (le-leb 59 key (omega arith), lt-leb key 68 h)) (ne-eqb _ _ slash) (ne-eqb _ _ print) (ne-eqb _ _ pause)

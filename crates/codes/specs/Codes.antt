@@ -82,6 +82,11 @@ formOf set key mods lock =
     (pick (isPrint key) (printForm mods)
     (pick (isPause key) (pauseForm mods) Plain))))
 
+-- Keys whose bytes depend on modifiers or Num Lock: in sets 1 and 2 the cursor keys, keypad /, PRINT and PAUSE.
+unfoldable pub hasForms : ℕ → ℕ → Bool
+hasForms set key =
+    both (not (eqb set 3)) (either (isCursor key) (either (isKeypadSlash key) (either (isPrint key) (isPause key))))
+
 -- The form that PRINT has with ALT, and PAUSE with CTRL.
 abbrev pub isOther : Form → Bool
 isOther Plain = false

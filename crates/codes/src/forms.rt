@@ -6,7 +6,7 @@ use crate::LAST_CURSOR;
 use crate::PAUSE;
 use crate::PRINT;
 ghost use mathlib.Core.Path.{_≡_};
-ghost use Rattle.codes.specs.Codes.{shiftForm, cursorForm, printForm, pauseForm, formOf};
+ghost use Rattle.codes.specs.Codes.{shiftForm, cursorForm, printForm, pauseForm, formOf, hasForms};
 
 // The form that held SHIFTs give.
 fn by_shifts(modifiers: u8) -> Form
@@ -88,4 +88,12 @@ pub fn form_of(set: u8, key: u8, modifiers: u8, lock: bool) -> Form
         return of_pause(modifiers);
     }
     Form::Plain
+}
+
+// The key has more than one form.
+pub fn has_forms(set: u8, key: u8) -> bool
+    ensures { λ r. ⌜ r ≡ hasForms set key ⌝ }
+{
+    let cursor = (FIRST_CURSOR <= key) & (key <= LAST_CURSOR);
+    (set != 3) & (cursor | (key == KEYPAD_SLASH) | (key == PRINT) | (key == PAUSE))
 }

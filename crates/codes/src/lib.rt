@@ -1,6 +1,7 @@
 // The codes of keys (docs/RULES.md, section 3): the bytes that a press, a release or a repeat of a key sends.
 pub mod bytes; // bytes.rt: bytes put one after another
 pub mod forms; // forms.rt: which form a key takes
+pub mod plain; // plain.rt: the bytes of an action of a key with one form
 pub mod strokes; // strokes.rt: the bytes of an action
 
 // The keys that do not follow the table alone: the ten cursor keys, and three more.

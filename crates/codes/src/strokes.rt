@@ -8,11 +8,12 @@ use crate::bytes::empty;
 use crate::bytes::with_break;
 use crate::bytes::with_make;
 use crate::forms::form_of;
+use keys::Table;
 ghost use mathlib.Core.Path.{_≡_};
 ghost use mathlib.Core.List.{_++_};
 ghost use Rattle.basics.specs.Choice.{both};
 ghost use Rattle.codes.specs.Codes.{makeOf, before, after, isPrint, isOther, codeOf, pauseBytes, pausesAtOnce, sendsRelease, mayRepeat, bytesOf, encode};
-ghost use Rattle.keys.specs.Keys.{codeIn, leftWrap, rightWrap};
+ghost use Rattle.keys.specs.Keys.{laidOut, codeIn, leftWrap, rightWrap};
 ghost use Rattle.codes.specs.declared.Action.the-variants.{Press, Release, Repeat};
 ghost use Rattle.codes.specs.Sequences.{holding, adding};
 ghost use Prim.Native.Nat.{ℕ, _≤_};
@@ -72,10 +73,11 @@ fn with_after(s: Sequence, set: u8, form: Form) -> Sequence
 }
 
 // The code of a key by the table: the one place where an action looks into it.
-fn code_in(set: u8, key: u8) -> u16
+pub(crate) fn code_in(table: &Table, set: u8, key: u8) -> u16
+    requires { ⌜ now table ≡ laidOut ⌝ }
     ensures { λ r. ⌜ r ≡ codeIn set key ⌝ }
 {
-    let row = keys::row_of(key);
+    let row = keys::row_in(table, key);
     if set == 1 {
         return row.0;
     }
@@ -110,13 +112,14 @@ fn is_other_print(key: u8, form: Form) -> bool
 }
 
 // The code of a key in a form.
-fn code_of(set: u8, key: u8, form: Form) -> u16
+fn code_of(table: &Table, set: u8, key: u8, form: Form) -> u16
+    requires { ⌜ now table ≡ laidOut ⌝ }
     ensures { λ r. ⌜ r ≡ codeOf set key form ⌝ }
 {
     if is_other_print(key, form) {
         return if set == 1 { 0x54 } else { 0x84 };
     }
-    code_in(set, key)
+    code_in(table, set, key)
 }
 
 // All of PAUSE in set 1 or 2, written out.
@@ -162,7 +165,7 @@ fn pauses_at_once(set: u8, key: u8) -> bool
 }
 
 // A release is sent.
-fn sends_release(set: u8, kind: u8) -> bool
+pub(crate) fn sends_release(set: u8, kind: u8) -> bool
     ensures { λ r. ⌜ r ≡ sendsRelease set kind ⌝ }
 {
     if set != 3 {
@@ -191,25 +194,28 @@ pub fn may_repeat(set: u8, key: u8, kind: u8) -> bool
 }
 
 // A key's make in its form, behind what a wrapping sends.
-fn made(set: u8, key: u8, form: Form, wrapping: Form) -> Sequence
+fn made(table: &Table, set: u8, key: u8, form: Form, wrapping: Form) -> Sequence
+    requires { ⌜ now table ≡ laidOut ⌝ }
     ensures { λ r. ⌜ r ≡ holding (before set wrapping ++ makeOf (codeOf set key form)) ⌝ }
 {
     let start = with_before(empty(), set, wrapping);
-    with_make(start, code_of(set, key, form))
+    with_make(start, code_of(table, set, key, form))
 }
 
 // The bytes of a press, which no type changes.
-fn press(set: u8, key: u8, form: Form) -> Sequence
+fn press(table: &Table, set: u8, key: u8, form: Form) -> Sequence
+    requires { ⌜ now table ≡ laidOut ⌝ }
     ensures { λ r. ⌜ ((kind : ℕ) → r ≡ holding (bytesOf set key Press kind form)) ⌝ }
 {
     if pauses_at_once(set, key) {
         return pause(set, form);
     }
-    made(set, key, form, form)
+    made(table, set, key, form, form)
 }
 
 // The bytes of a release.
-fn release(set: u8, key: u8, kind: u8, form: Form) -> Sequence
+fn release(table: &Table, set: u8, key: u8, kind: u8, form: Form) -> Sequence
+    requires { ⌜ now table ≡ laidOut ⌝ }
     ensures { λ r. ⌜ r ≡ holding (bytesOf set key Release kind form) ⌝ }
 {
     let none = empty();
@@ -220,21 +226,43 @@ fn release(set: u8, key: u8, kind: u8, form: Form) -> Sequence
     if !sends_release(set, kind) {
         return none;
     }
-    let start = with_break(none, set, code_of(set, key, form));
+    let start = with_break(none, set, code_of(table, set, key, form));
     with_after(start, set, form)
 }
 
 // The bytes of a repeat, which is never wrapped.
-fn repeat(set: u8, key: u8, kind: u8, form: Form) -> Sequence
+fn repeat(table: &Table, set: u8, key: u8, kind: u8, form: Form) -> Sequence
+    requires { ⌜ now table ≡ laidOut ⌝ }
     ensures { λ r. ⌜ r ≡ holding (bytesOf set key Repeat kind form) ⌝ }
 {
     if !may_repeat(set, key, kind) {
         return empty();
     }
-    made(set, key, form, Form::Plain)
+    made(table, set, key, form, Form::Plain)
 }
 
-// The bytes that an action of a key sends.
+// The bytes that an action of a key sends, by a table that the caller laid out.
+pub fn sequence_in(
+    table: &Table,
+    set: u8,
+    key: u8,
+    action: Action,
+    kind: u8,
+    modifiers: u8,
+    lock: bool,
+) -> Sequence
+    requires { ⌜ now table ≡ laidOut ⌝ }
+    ensures { λ r. ⌜ r ≡ holding (encode set key action kind modifiers lock) ⌝ }
+{
+    let form = form_of(set, key, modifiers, lock);
+    match action {
+        Action::Press => press(table, set, key, form),
+        Action::Release => release(table, set, key, kind, form),
+        Action::Repeat => repeat(table, set, key, kind, form),
+    }
+}
+
+// The same for a caller that has no table.
 pub fn sequence_of(
     set: u8,
     key: u8,
@@ -245,10 +273,6 @@ pub fn sequence_of(
 ) -> Sequence
     ensures { λ r. ⌜ r ≡ holding (encode set key action kind modifiers lock) ⌝ }
 {
-    let form = form_of(set, key, modifiers, lock);
-    match action {
-        Action::Press => press(set, key, form),
-        Action::Release => release(set, key, kind, form),
-        Action::Repeat => repeat(set, key, kind, form),
-    }
+    let table = keys::table();
+    sequence_in(&table, set, key, action, kind, modifiers, lock)
 }

@@ -1,7 +1,7 @@
 -- The key table (docs/RULES.md, section 1): one row for each key, in the order of the key numbers.
 -- A code above 255 has the prefix E0: 0xe05b is sent as E0 5B. Assumes nothing.
 use Prim.Native.Nat.{ℕ}
-use mathlib.Core.List.{List, [], _∷_}
+use mathlib.Core.List.{List, [], _∷_, map}
 use lib.Dec.{eqb}
 use lib.ListN.{getD}
 use Rattle.basics.specs.Choice.{pick}
@@ -136,6 +136,13 @@ rows =
     row 0xe05c 0xe027 0x8c makeBreak ∷  -- 103 RWIN
     row 0xe05d 0xe02f 0x8d makeBreak ∷  -- 104 APP
     []
+
+-- The rows as the code lays them out: each as its four numbers.
+abbrev pub numbersOf : Row → List ℕ
+numbersOf r = r .0 ∷ r .1 ∷ r .2 ∷ r .3 ∷ []
+
+unfoldable pub laidOut : List (List ℕ)
+laidOut = map numbersOf rows
 
 -- The row of a key.
 unfoldable pub rowOf : ℕ → Row

@@ -5,20 +5,20 @@ use borrow.Author.Needs.{needs}
 use Rattle.codes.proofs.strokes.code_in.Statement.{statement}
 use Rattle.codes.proofs.strokes.code_in.Tie as tie
 
-row-of-requires : tie.Need-row-of-requires
-row-of-requires c κs = search needs
+row-in-requires : tie.Need-row-in-requires
+row-in-requires c κs = search needs
 
 returns : tie.Need-returns
 unfolding codeIn
-returns c = rw (c .if1 .taken, c .before .row-of .ensures)
+returns c = rw (c .if1 .taken, c .before .row-in .ensures)
 
 returns-2 : tie.Need-returns-2
 unfolding codeIn
-returns-2 c = rw (c .if2 .taken, c .before .before .row-of .ensures)
+returns-2 c = rw (c .if2 .taken, c .before .before .row-in .ensures)
 
 returns-3 : tie.Need-returns-3
 unfolding codeIn
-returns-3 c = rw (ne-eqb _ _ (c .before .if1 .left), ne-eqb _ _ (c .if2 .left), c .before .before .row-of .ensures)
+returns-3 c = rw (ne-eqb _ _ (c .before .if1 .left), ne-eqb _ _ (c .if2 .left), c .before .before .row-in .ensures)
 
 pub code-in-spec : {M : Type 1} → statement M
-code-in-spec = tie.close (tie.spec row-of-requires returns returns-2 returns-3)
+code-in-spec = tie.close (tie.spec row-in-requires returns returns-2 returns-3)

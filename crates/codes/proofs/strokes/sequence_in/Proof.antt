@@ -1,8 +1,8 @@
--- `codes::strokes::sequence_of` meets its contract: each action in the form that the key takes. Assumes nothing.
+-- `codes::strokes::sequence_in` meets its contract: each action in the form that the key takes. Assumes nothing.
 use Rattle.codes.specs.Codes.{encode}
 use borrow.Author.Needs.{needs}
-use Rattle.codes.proofs.strokes.sequence_of.Statement.{statement}
-use Rattle.codes.proofs.strokes.sequence_of.Tie as tie
+use Rattle.codes.proofs.strokes.sequence_in.Statement.{statement}
+use Rattle.codes.proofs.strokes.sequence_in.Tie as tie
 
 form-of-requires : tie.Need-form-of-requires
 form-of-requires c κs = search needs
@@ -37,8 +37,8 @@ returns-3 : tie.Need-returns-3
 unfolding encode
 returns-3 c = rw (c .before .enum-told3 .given .1, ← c .before .before .before .form-of .ensures) (c .repeat .ensures)
 
-pub sequence-of-spec : {M : Type 1} → statement M
-sequence-of-spec =
+pub sequence-in-spec : {M : Type 1} → statement M
+sequence-in-spec =
     tie.close
     (tie.spec
     form-of-requires
