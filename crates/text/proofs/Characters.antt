@@ -3,7 +3,7 @@ use mathlib.Core.Path.{_≡_, refl, _∙_}
 use mathlib.Core.Bool.{Bool, true, false, _&&_}
 use mathlib.Core.List.{List, [], _∷_}
 use mathlib.Core.Logic.{_⊎_, inl, inr, ⊎-elim}
-use Prim.Native.Nat.{ℕ, zero, suc, _+_, _*_, _/_, _%_, _≤_, _<_}
+use Prim.Native.Nat.{ℕ, zero, suc, _+_, _≤_, _<_}
 use native.Mathlib.Nat.{le-of-suc-le-suc, not-suc-le-zero}
 use native.Mathlib.Numerals.{add-one}
 use native.Mathlib.Omega.{arith}
@@ -23,10 +23,8 @@ digit-limits c d = go (between 48 57 c) refl d
     go true e h = inl (leb-true 48 c (left-of-both (leb 48 c) (leb c 57) e), leb-true c 57 (right-of-both (leb 48 c) (leb c 57) e))
     go false e h = inr (leb-true 65 c (left-of-both (leb 65 c) (leb c 70) h), leb-true c 70 (right-of-both (leb 65 c) (leb c 70) h))
 
--- The low four bits, and 9 more for a letter.
-pub value-by-bits : (c : ℕ) → isDigit c ≡ true → c % 16 + 9 * (c / 64) ≡ valueOf c
-value-by-bits c d =
-    ⊎-elim (λ w. rw (le-leb c 57 (w .1)) (omega arith)) (λ w. rw (lt-leb c 57 (omega arith)) (omega arith)) (digit-limits c d)
+pub digit-from-48 : (c : ℕ) → isDigit c ≡ true → 48 ≤ c
+digit-from-48 c d = ⊎-elim (λ w. w .0) (λ w. omega arith) (digit-limits c d)
 
 pub value-below-16 : (c : ℕ) → isDigit c ≡ true → valueOf c < 16
 value-below-16 c d =

@@ -25,12 +25,12 @@ pub fn all_digits(line: &[u8]) -> bool
     good
 }
 
-// What a digit stands for: its low four bits, and 9 more for a letter.
+// What a digit stands for.
 fn value_of(c: u8) -> u8
     requires { ⌜ isDigit c ≡ true ⌝ }
     ensures { λ r. ⌜ r ≡ valueOf c ⌝ }
 {
-    c % 16 + 9 * (c / 64)
+    if c <= 57 { c - 48 } else { c - 55 }
 }
 
 // The byte that the digits 2 i and 2 i + 1 stand for.

@@ -1,17 +1,21 @@
--- `text::digits::value_of` meets its contract: a digit's bits give what it stands for. Assumes nothing.
+-- `text::digits::value_of` meets its contract: its test is the definition's, and a digit is at least 48. Assumes nothing.
 use borrow.Author.Needs.{needs}
-use Rattle.text.proofs.Characters.{value-by-bits}
+use borrow.Author.Tests.{le-leb, lt-leb}
+use Rattle.text.proofs.Characters.{digit-from-48}
 use Rattle.text.proofs.digits.value_of.Statement.{statement}
 use Rattle.text.proofs.digits.value_of.Tie as tie
 
-mul-result : tie.Need-mul-result
-mul-result c = search needs
+sub-result : tie.Need-sub-result
+sub-result c = digit-from-48 _ (c .before .pre)
 
-add-result : tie.Need-add-result
-add-result c = search needs
+sub-result-2 : tie.Need-sub-result-2
+sub-result-2 c = search needs
 
 returns : tie.Need-returns
-returns c = value-by-bits _ (c .pre)
+returns c = simp (le-leb _ _ (c .if1 .taken))
+
+returns-2 : tie.Need-returns-2
+returns-2 c = simp (lt-leb _ _ (c .if1 .left))
 
 pub value-of-spec : {M : Type 1} → statement M
-value-of-spec = tie.close (tie.spec mul-result add-result returns)
+value-of-spec = tie.close (tie.spec sub-result sub-result-2 returns returns-2)
