@@ -1,12 +1,11 @@
--- Never more than 16 key bytes and never more than 16 replies wait: after any calls since power-on, overruns and clearing frames
+-- Never more than 16 key bytes and never more than three replies wait: after any calls since power-on, overruns and clearing frames
 -- included. Assumes nothing.
 use mathlib.Core.Path.{_≡_, refl, _∙_}
 use mathlib.Core.List.{List, [], _∷_}
 use Prim.Native.Nat.{ℕ, _≤_}
 use native.Mathlib.Omega.{arith}
 use lib.Dec.{eqb, leb}
-use lib.ListN.{length}
-use Rattle.basics.specs.Choice.{either}
+use lib.ListN.{length, take, drop, length-take, length-drop}
 use Rattle.basics.specs.Lists.{allUpTo}
 use Rattle.contacts.specs.Phantom.{isPhantom}
 use Rattle.dock.specs.declared.Answered.{Answered}
@@ -15,15 +14,19 @@ use Rattle.dock.specs.Closing.{closing}
 use Rattle.dock.specs.Scan.{listening, counting, changed, repeating, heardScan, scanned, scanOf}
 use Rattle.dock.specs.Swap.{opened, remapped, swapped, swapOf}
 use Rattle.dock.specs.Frame.{tookFrame, frameOf}
-use Rattle.dock.specs.Read.{oldest, behindIt, remembering, replyTaken, keyByteTaken, read, readOf}
+use Rattle.dock.specs.Read.{oldest, behindIt, oldestReply, repliesBehind, remembering, replyTaken, keyByteTaken, read, readOf}
 use Rattle.frames.specs.declared.Unpacked.{Unpacked}
 use Rattle.frames.specs.declared.Unpacked.the-variants.{Byte, Broken, TooLarge}
 use Rattle.frames.specs.Frames.{unpackedOf}
 use Rattle.host.specs.Commands.{replyTo, commanded, rightValue, given, tookByte}
+use Rattle.host.proofs.InRange.{reply-short}
 use Rattle.keying.proofs.Kept.{picked}
 use Rattle.maps.specs.Maps.{hasDouble}
-use Rattle.queue.specs.Queues.{waiting, queueOf}
-use Rattle.queue.proofs.Meaning.{tidy-short, length-waiting, places-queueOf}
+use Rattle.queue.specs.declared.replies.Replies.{Replies}
+use Rattle.queue.specs.Queues.{waiting}
+use Rattle.queue.specs.Replies.{waitingReplies, repliesOf}
+use Rattle.queue.proofs.Meaning.{tidy-short, length-waiting}
+use Rattle.queue.proofs.ReplyMeaning.{replies-short, length-waitingReplies, places-repliesOf}
 use Rattle.record.specs.declared.Dock.{Dock}
 use Rattle.record.specs.Parts.{withKeys, withReplies, withQueue}
 use Rattle.record.specs.Power.{freshWith, powerOn}
@@ -31,12 +34,11 @@ use Rattle.record.specs.Range.{inRange}
 use Rattle.record.proofs.Ranges.{good-keys-queue, in-range-keys, in-range-replies}
 use Rattle.runs.specs.Calls.{Call, Scan, Swap, Frame, Read}
 use Rattle.runs.specs.Worlds.{World, woken, next, afterCalls}
-use Rattle.agreement.proofs.Taken.{behind-places}
 use Rattle.agreement.proofs.AnyCalls.{Sound, woken-sound, any-sound}
 
--- The replies have their 16 places.
+-- The replies have their three places.
 abbrev Roomy : Dock → Type 0
-Roomy d = length (d .replies .bytes) ≡ 16
+Roomy d = length (d .replies .bytes) ≡ 3
 
 -- The end of a call leaves the replies alone, and so do a scan and a swap.
 pub closing-replies : (d : Dock) → closing d .replies ≡ d .replies
@@ -68,24 +70,14 @@ swap-replies d map =
     refl)
     refl
 
--- A host byte is answered with a few bytes.
-reply-short : (byte : ℕ) → length (replyTo byte) ≤ 16
-unfolding replyTo
-reply-short byte =
-    let Short : List ℕ → Type 0 = λ (l : List ℕ). length l ≤ 16 in
-    picked Short (eqb byte 0xee) _ _ (omega arith)
-    (picked Short (either (eqb byte 0xef) (eqb byte 0xf1)) _ _ (omega arith)
-    (picked Short (eqb byte 0xf2) _ _ (omega arith)
-    (picked Short (eqb byte 0xff) _ _ (omega arith)
-    (omega arith))))
-
+-- A host byte is answered with three bytes at most.
 took-roomy : (byte : ℕ) (d : Dock) → Roomy (tookByte byte d)
 unfolding tookByte commanded given
 took-roomy byte d =
-    let one : (answer : ℕ) → length (queueOf (answer ∷ []) .bytes) ≡ 16 = λ answer. places-queueOf (answer ∷ []) (omega arith) in
+    let one : (answer : ℕ) → length (repliesOf (answer ∷ []) .bytes) ≡ 3 = λ answer. places-repliesOf (answer ∷ []) (omega arith) in
     picked Roomy (eqb byte 0xfe) _ _ (one (d .given))
     (picked Roomy (leb 0xed byte) (commanded byte d) (given byte d)
-    (places-queueOf (replyTo byte) (reply-short byte))
+    (places-repliesOf (replyTo byte) (reply-short byte))
     (picked Roomy (rightValue (d .waiting) byte) _ _ (one 0xfa) (one 0xfe)))
 
 frame-roomy : (d : Dock) (number : ℕ) → Roomy d → Roomy (frameOf d number .dock)
@@ -94,8 +86,14 @@ frame-roomy d number r = picked (λ (a : Answered). Roomy (a .dock)) (inRange d)
   where
     go : (u : Unpacked) → Roomy (tookFrame u d .dock)
     go (Byte byte) = rw (closing-replies (tookByte byte d)) (took-roomy byte d)
-    go Broken = rw closing-replies (places-queueOf (0xfe ∷ []) (omega arith))
+    go Broken = rw closing-replies (places-repliesOf (0xfe ∷ []) (omega arith))
     go TooLarge = r
+
+behind-roomy : (r : Replies) → length (r .bytes) ≡ 3 → length (repliesBehind r .bytes) ≡ 3
+unfolding waitingReplies
+behind-roomy r e =
+    let bytes = take (r .length) (r .bytes) in
+    places-repliesOf (drop 1 bytes) (omega (arith, length-drop 1 bytes, length-take (r .length) (r .bytes)))
 
 read-roomy : (d : Dock) → Roomy d → Roomy (readOf d .dock)
 unfolding readOf read replyTaken keyByteTaken remembering
@@ -107,18 +105,18 @@ read-roomy d r =
     (picked Fine (eqb (q .length) 0) _ (keyByteTaken d)
     (rw (closing-replies d) r)
     (rw (closing-replies (remembering (withKeys d (withQueue (d .keys) (behindIt q))) (oldest q))) r))
-    (rw (closing-replies (remembering (withReplies d (behindIt (d .replies))) (oldest (d .replies))))
-    (behind-places (d .replies) r)))
+    (rw (closing-replies (remembering (withReplies d (repliesBehind (d .replies))) (oldestReply (d .replies))))
+    (behind-roomy (d .replies) r)))
     r
 
 -- The dock is sound, and its replies have their places.
 pub record Steady (w : World) : Type 0 where
   pub sound : Sound w
-  pub roomy : length (w .dock .replies .bytes) ≡ 16
+  pub roomy : length (w .dock .replies .bytes) ≡ 3
 
 woken-steady : Steady woken
 unfolding woken powerOn freshWith
-woken-steady = record { sound = woken-sound; roomy = places-queueOf (0xaa ∷ []) (omega arith) }
+woken-steady = record { sound = woken-sound; roomy = places-repliesOf (0xaa ∷ []) (omega arith) }
 
 next-roomy : (w : World) (call : Call) → Roomy (w .dock) → Roomy (next w call .dock)
 unfolding next
@@ -140,26 +138,26 @@ any-steady (call ∷ calls) w s = any-steady calls (next w call) (next-steady w 
 pub reached-steady : (calls : List Call) → Steady (afterCalls woken calls)
 reached-steady calls = any-steady calls woken woken-steady
 
--- As many bytes wait as the queue's own length says: at most 16.
+-- As many bytes wait as the lengths say: at most 16 in the queue, and at most three replies.
 pub keys-counted : (w : World) → Sound w → length (waiting (w .dock .keys .queue)) ≡ w .dock .keys .queue .length
 keys-counted w s =
     let d = w .dock in
     length-waiting (d .keys .queue) (good-keys-queue (d .keys) (in-range-keys d (s .range))) (s .settled .ready .places .bytes)
 
-pub replies-counted : (w : World) → Steady w → length (waiting (w .dock .replies)) ≡ w .dock .replies .length
-replies-counted w s = length-waiting (w .dock .replies) (in-range-replies (w .dock) (s .sound .range)) (s .roomy)
+pub replies-counted : (w : World) → Steady w → length (waitingReplies (w .dock .replies)) ≡ w .dock .replies .length
+replies-counted w s = length-waitingReplies (w .dock .replies) (in-range-replies (w .dock) (s .sound .range)) (s .roomy)
 
 pub keys-few : (w : World) → Sound w → length (waiting (w .dock .keys .queue)) ≤ 16
 keys-few w s =
     let d = w .dock in
     rw (keys-counted w s) (tidy-short (d .keys .queue) (good-keys-queue (d .keys) (in-range-keys d (s .range))))
 
-pub replies-few : (w : World) → Steady w → length (waiting (w .dock .replies)) ≤ 16
-replies-few w s = rw (replies-counted w s) (tidy-short (w .dock .replies) (in-range-replies (w .dock) (s .sound .range)))
+pub replies-few : (w : World) → Steady w → length (waitingReplies (w .dock .replies)) ≤ 3
+replies-few w s = rw (replies-counted w s) (replies-short (w .dock .replies) (in-range-replies (w .dock) (s .sound .range)))
 
 -- After any calls.
 pub queue-bounded : (calls : List Call) → length (waiting (afterCalls woken calls .dock .keys .queue)) ≤ 16
 queue-bounded calls = keys-few (afterCalls woken calls) (reached-steady calls .sound)
 
-pub replies-bounded : (calls : List Call) → length (waiting (afterCalls woken calls .dock .replies)) ≤ 16
+pub replies-bounded : (calls : List Call) → length (waitingReplies (afterCalls woken calls .dock .replies)) ≤ 3
 replies-bounded calls = replies-few (afterCalls woken calls) (reached-steady calls)

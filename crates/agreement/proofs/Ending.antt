@@ -1,5 +1,5 @@
 -- Reads make the dock quiet, and end a handover: while something waits each read leaves less to be read, and where nothing waits it
--- changes nothing, so that from any moment since power-on 968 reads or more leave nothing waiting. Assumes nothing.
+-- changes nothing, so that from any moment since power-on 955 reads or more leave nothing waiting. Assumes nothing.
 use mathlib.Core.Path.{_≡_, refl, ap}
 use mathlib.Core.Bool.{Bool, true, false}
 use mathlib.Core.List.{List, []}
@@ -7,18 +7,19 @@ use Prim.Native.Nat.{ℕ, zero, suc, _+_, _≤_, _<_}
 use native.Mathlib.Omega.{arith}
 use borrow.Author.Tests.{eqb-true, eqb-false, eq-eqb}
 use lib.Dec.{eqb}
-use lib.ListN.{length, replicate, length-drop}
+use lib.ListN.{length, replicate, drop, length-drop}
 use Rattle.basics.proofs.Cases.{by-cases}
 use Rattle.basics.proofs.Flags.{left-of-both, right-of-both}
 use Rattle.dock.specs.declared.Taken.{Taken}
 use Rattle.dock.specs.Closing.{withHanded, closing}
 use Rattle.dock.specs.Scan.{quiet}
-use Rattle.dock.specs.Read.{oldest, behindIt, remembering, replyTaken, keyByteTaken, read, readOf}
+use Rattle.dock.specs.Read.{oldest, behindIt, oldestReply, repliesBehind, remembering, replyTaken, keyByteTaken, read, readOf}
 use Rattle.keying.specs.Handover.{handedOver}
 use Rattle.keying.proofs.Kept.{picked}
-use Rattle.queue.specs.declared.Queue.{Queue}
 use Rattle.queue.specs.Queues.{waiting}
+use Rattle.queue.specs.Replies.{waitingReplies}
 use Rattle.queue.proofs.Meaning.{waiting-queueOf}
+use Rattle.queue.proofs.ReplyMeaning.{waiting-repliesOf}
 use Rattle.record.specs.declared.Dock.{Dock}
 use Rattle.record.specs.Parts.{withKeys, withReplies, withQueue}
 use Rattle.runs.specs.Calls.{Call, Read}
@@ -32,7 +33,7 @@ use Rattle.agreement.proofs.Bounds.{Steady, keys-counted, replies-count
 
 -- What is still to be read: the replies, the key bytes, and nine for each held key, more than its release.
 abbrev pub stillToRead : Dock → ℕ
-stillToRead d = length (waiting (d .replies)) + toRead (d .keys)
+stillToRead d = length (waitingReplies (d .replies)) + toRead (d .keys)
 
 -- The end of a call does not make more of it.
 closing-less : (d : Dock) → stillToRead (closing d) ≤ stillToRead d
@@ -43,9 +44,9 @@ closing-less d =
     (omega arith)
     (omega arith)
 
--- A queue without its oldest byte is shorter.
-behind-less : (q : Queue) → 1 ≤ length (waiting q) → length (waiting (behindIt q)) < length (waiting q)
-behind-less q some = rw waiting-queueOf (omega (arith, length-drop 1 (waiting q)))
+-- Bytes without the oldest are fewer.
+fewer : (l : List ℕ) → 1 ≤ length l → length (drop 1 l) < length l
+fewer l some = omega (arith, length-drop 1 l)
 
 -- Nothing waits in the queue of a quiet dock,
 pub quiet-empty : (d : Dock) → quiet d ≡ true → waiting (d .keys .queue) ≡ []
@@ -80,11 +81,12 @@ module _ (w : World) (s : Steady w) where
       (λ some.
       let first = some-wait q (s .sound .settled .ready .places .bytes) (eqb-false (q .length) 0 some) in
       let rest = remembering (withKeys d (withQueue (d .keys) (behindIt q))) (oldest q) in
-      omega (arith, closing-less rest, behind-less q first)))
+      omega (arith, closing-less rest, ap length (waiting-queueOf (drop 1 (waiting q))), fewer (waiting q) first)))
       (λ some.
-      let first = some-wait (d .replies) (s .roomy) (eqb-false (d .replies .length) 0 some) in
-      let rest = remembering (withReplies d (behindIt (d .replies))) (oldest (d .replies)) in
-      omega (arith, closing-less rest, behind-less (d .replies) first)))
+      let replies = waitingReplies (d .replies) in
+      let first : 1 ≤ length replies = omega (arith, replies-counted w s, eqb-false (d .replies .length) 0 some) in
+      let rest = remembering (withReplies d (repliesBehind (d .replies))) (oldestReply (d .replies)) in
+      omega (arith, closing-less rest, ap length (waiting-repliesOf (drop 1 replies)), fewer replies first)))
 
   -- and where nothing does, it changes nothing.
   pub read-of-quiet : quiet (w .dock) ≡ true → next w Read .dock ≡ w .dock
@@ -114,16 +116,16 @@ reads-all (suc n) w s most = go (quiet (w .dock)) refl (reads-all n (next w Read
     go true e later = stays-quiet (suc n) w s e
     go false e later = later (omega (arith, read-brings-on w s e))
 
--- 968: 16 replies, 16 key bytes, and nine for each of 104 keys.
-pub enough-reads : (w : World) → Steady w → (n : ℕ) → 968 ≤ n → quiet (afterCalls w (replicate n Read) .dock) ≡ true
+-- 955: three replies, 16 key bytes, and nine for each of 104 keys.
+pub enough-reads : (w : World) → Steady w → (n : ℕ) → 955 ≤ n → quiet (afterCalls w (replicate n Read) .dock) ≡ true
 enough-reads w s n enough = reads-all n w s (omega (arith, keys-few w (s .sound), replies-few w s, held-most 104 (w .dock .keys .held)))
 
 -- After any calls,
-pub reads-quieten : (calls : List Call) (n : ℕ) → 968 ≤ n → quiet (afterCalls (afterCalls woken calls) (replicate n Read) .dock) ≡ true
+pub reads-quieten : (calls : List Call) (n : ℕ) → 955 ≤ n → quiet (afterCalls (afterCalls woken calls) (replicate n Read) .dock) ≡ true
 reads-quieten calls n enough = enough-reads (afterCalls woken calls) (reached-steady calls) n enough
 
 -- so that no handover is left open.
-pub handover-ends : (calls : List Call) (n : ℕ) → 968 ≤ n → afterCalls (afterCalls woken calls) (replicate n Read) .dock .handover ≡ false
+pub handover-ends : (calls : List Call) (n : ℕ) → 955 ≤ n → afterCalls (afterCalls woken calls) (replicate n Read) .dock .handover ≡ false
 handover-ends calls n enough =
     let end = afterCalls (afterCalls woken calls) (replicate n Read) in
     let sound = any-sound (replicate n Read) (afterCalls woken calls) (reached-steady calls .sound) in

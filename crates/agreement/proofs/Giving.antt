@@ -10,28 +10,28 @@ use Rattle.dock.specs.declared.Given.the-variants.{Nothing, Reply, KeyByte}
 use Rattle.dock.specs.declared.Taken.{Taken}
 use Rattle.dock.specs.Answers.{taken}
 use Rattle.dock.specs.Closing.{closing}
-use Rattle.dock.specs.Read.{oldest, behindIt, remembering, replyTaken, keyByteTaken, read, readOf}
+use Rattle.dock.specs.Read.{oldest, behindIt, oldestReply, repliesBehind, remembering, replyTaken, keyByteTaken, read, readOf}
 use Rattle.keying.proofs.Kept.{picked}
 use Rattle.queue.specs.Queues.{waiting}
-use Rattle.queue.proofs.Meaning.{waiting-queueOf}
+use Rattle.queue.specs.Replies.{waitingReplies}
+use Rattle.queue.proofs.ReplyMeaning.{waiting-repliesOf}
 use Rattle.record.specs.declared.Dock.{Dock}
 use Rattle.record.specs.Parts.{withKeys, withReplies, withQueue}
 use Rattle.runs.specs.Calls.{Call, Read}
 use Rattle.runs.specs.Worlds.{World, woken, next, afterCalls}
 use Rattle.runs.specs.Bytes.{foremost}
 use Rattle.basics.proofs.Cases.{by-cases}
-use Rattle.agreement.proofs.Following.{none-wait}
 use Rattle.agreement.proofs.Bounds.{Steady, closing-replies, keys-counted, replies-counted, reached-steady}
 
 pub read-gives : (w : World) → Steady w
-    → readOf (w .dock) .given ≡ foremost (waiting (w .dock .replies)) (waiting (w .dock .keys .queue))
+    → readOf (w .dock) .given ≡ foremost (waitingReplies (w .dock .replies)) (waiting (w .dock .keys .queue))
 unfolding readOf read replyTaken keyByteTaken
-read-gives w s = rw (s .sound .range) (go (waiting (d .replies)) (waiting (d .keys .queue)) refl refl)
+read-gives w s = rw (s .sound .range) (go (waitingReplies (d .replies)) (waiting (d .keys .queue)) refl refl)
   where
     d : Dock
     d = w .dock
 
-    go : (replies bytes : List ℕ) → waiting (d .replies) ≡ replies → waiting (d .keys .queue) ≡ bytes
+    go : (replies bytes : List ℕ) → waitingReplies (d .replies) ≡ replies → waiting (d .keys .queue) ≡ bytes
         → read d .given ≡ foremost replies bytes
     go (reply ∷ replies) bytes e f =
         let some : d .replies .length ≡ suc (length replies) = sym (replies-counted w s) ∙ ap length e in
@@ -49,24 +49,24 @@ read-gives w s = rw (s .sound .range) (go (waiting (d .replies)) (waiting (d .ke
 -- So it is after any calls.
 pub any-read-gives : (calls : List Call)
     → readOf (afterCalls woken calls .dock) .given
-    ≡ foremost (waiting (afterCalls woken calls .dock .replies)) (waiting (afterCalls woken calls .dock .keys .queue))
+    ≡ foremost (waitingReplies (afterCalls woken calls .dock .replies)) (waiting (afterCalls woken calls .dock .keys .queue))
 any-read-gives calls = read-gives (afterCalls woken calls) (reached-steady calls)
 
 -- It leaves the replies behind the oldest, in order; of the key bytes see Queue.
-pub read-leaves : (w : World) → Steady w → waiting (next w Read .dock .replies) ≡ drop 1 (waiting (w .dock .replies))
-unfolding next readOf read replyTaken keyByteTaken remembering
+pub read-leaves : (w : World) → Steady w → waitingReplies (next w Read .dock .replies) ≡ drop 1 (waitingReplies (w .dock .replies))
+unfolding waitingReplies next readOf read replyTaken keyByteTaken remembering
 read-leaves w s =
     let d = w .dock in
     let q = d .keys .queue in
-    let Left : Taken → Type 0 = λ (t : Taken). waiting (t .dock .replies) ≡ drop 1 (waiting (w .dock .replies)) in
+    let Left : Taken → Type 0 = λ (t : Taken). waitingReplies (t .dock .replies) ≡ drop 1 (waitingReplies (w .dock .replies)) in
     rw (s .sound .range)
     (by-cases Left (eqb (d .replies .length) 0) _ (replyTaken d)
     (λ none.
-    let empty = none-wait (d .replies) (eqb-true (d .replies .length) 0 none) in
-    let same : waiting (d .replies) ≡ drop 1 (waiting (d .replies)) = empty ∙ sym (ap (λ (l : List ℕ). drop 1 l) empty) in
+    let empty : waitingReplies (d .replies) ≡ [] = rw (eqb-true (d .replies .length) 0 none) in
+    let same : waitingReplies (d .replies) ≡ drop 1 (waitingReplies (d .replies)) = empty ∙ sym (ap (λ (l : List ℕ). drop 1 l) empty) in
     picked Left (eqb (q .length) 0) (taken Nothing (closing d)) (keyByteTaken d)
     (rw (closing-replies d) same)
     (rw (closing-replies (remembering (withKeys d (withQueue (d .keys) (behindIt q))) (oldest q))) same))
     (λ some.
-    rw (closing-replies (remembering (withReplies d (behindIt (d .replies))) (oldest (d .replies))))
-    (waiting-queueOf (drop 1 (waiting (d .replies))))))
+    rw (closing-replies (remembering (withReplies d (repliesBehind (d .replies))) (oldestReply (d .replies))))
+    (waiting-repliesOf (drop 1 (waitingReplies (d .replies))))))

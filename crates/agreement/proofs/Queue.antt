@@ -20,7 +20,7 @@ use Rattle.dock.specs.Answers.{answered, taken}
 use Rattle.dock.specs.Closing.{closing}
 use Rattle.dock.specs.Swap.{opened, remapped, swapped, swapOf}
 use Rattle.dock.specs.Frame.{tookFrame, frameOf}
-use Rattle.dock.specs.Read.{oldest, behindIt, remembering, replyTaken, keyByteTaken, read, readOf}
+use Rattle.dock.specs.Read.{oldest, behindIt, oldestReply, repliesBehind, remembering, replyTaken, keyByteTaken, read, readOf}
 use Rattle.frames.specs.declared.Unpacked.{Unpacked}
 use Rattle.frames.specs.declared.Unpacked.the-variants.{Byte, Broken, TooLarge}
 use Rattle.frames.specs.Frames.{unpackedOf}
@@ -115,7 +115,7 @@ read-bytes w s =
     let after = closing-bytes (remembering rest (oldest q))
     ∙ ap (λ (l : List ℕ). l ++ closingBytes rest) (waiting-queueOf (drop 1 (waiting q))) in
     ap (λ (l : List ℕ). l ++ closingBytes rest) first ∙ ap (λ (l : List ℕ). oldest q ∷ l) (sym after)))
-    (sym (closing-bytes (remembering (withReplies d (behindIt (d .replies))) (oldest (d .replies))))))
+    (sym (closing-bytes (remembering (withReplies d (repliesBehind (d .replies))) (oldestReply (d .replies))))))
 
 -- One call.
 pub call-keeps-bytes : (w : World) (call : Call) → Sound w → either (isClearingCall call) (overrunsIn (w .dock) call) ≡ false

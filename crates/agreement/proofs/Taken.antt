@@ -11,7 +11,7 @@ use Rattle.dock.specs.declared.Taken.{Taken}
 use Rattle.dock.specs.declared.Given.the-variants.{Nothing}
 use Rattle.dock.specs.Answers.{taken}
 use Rattle.dock.specs.Closing.{closing}
-use Rattle.dock.specs.Read.{oldest, behindIt, remembering, replyTaken, keyByteTaken, read, readOf}
+use Rattle.dock.specs.Read.{oldest, behindIt, oldestReply, repliesBehind, remembering, replyTaken, keyByteTaken, read, readOf}
 use Rattle.keying.proofs.Kept.{picked}
 use Rattle.queue.specs.declared.Queue.{Queue}
 use Rattle.queue.specs.Queues.{waiting}
@@ -27,7 +27,7 @@ use Rattle.agreement.proofs.Following.{Follows, closing-follows}
 use Rattle.agreement.proofs.Ready.{IsReady, Settled, same-flags, closing-settled}
 
 -- The queue without its oldest byte has its 16 places.
-pub behind-places : (q : Queue) → length (q .bytes) ≡ 16 → length (behindIt q .bytes) ≡ 16
+behind-places : (q : Queue) → length (q .bytes) ≡ 16 → length (behindIt q .bytes) ≡ 16
 unfolding waiting
 behind-places q e =
     let bytes = take (q .length) (q .bytes) in
@@ -50,7 +50,7 @@ read-settled d scans range s =
     (picked Fine (eqb (q .length) 0) (taken Nothing (closing d)) (keyByteTaken d)
     (closing-settled d scans (s .ready))
     (closing-settled (remembering (withKeys d (withQueue (d .keys) (behindIt q))) (oldest q)) scans (byte-ready d scans (s .ready))))
-    (closing-settled (remembering (withReplies d (behindIt (d .replies))) (oldest (d .replies))) scans (s .ready)))
+    (closing-settled (remembering (withReplies d (repliesBehind (d .replies))) (oldestReply (d .replies))) scans (s .ready)))
 
 -- A queue of some length holds some bytes.
 pub some-wait : (q : Queue) → length (q .bytes) ≡ 16 → (q .length ≡ 0 → ⊥) → 1 ≤ length (waiting q)
@@ -76,5 +76,5 @@ read-follows d scans t range s f =
     let heard = byte-follows d t (some-wait q (s .ready .places .bytes) (eqb-false (q .length) 0 some)) f in
     closing-follows (remembering (withKeys d (withQueue (d .keys) (behindIt q))) (oldest q)) (hears (d .mode .set) t (oldest q))
     heard))
-    (closing-follows (remembering (withReplies d (behindIt (d .replies))) (oldest (d .replies))) t
+    (closing-follows (remembering (withReplies d (repliesBehind (d .replies))) (oldestReply (d .replies))) t
     f))

@@ -21,8 +21,10 @@ use Rattle.keying.proofs.Kept.{picked}
 use Rattle.keying.proofs.Good.{turns-good, ticked-good, repeated-good, handed-good}
 use Rattle.maps.specs.Maps.{hasDouble}
 use Rattle.queue.specs.declared.Queue.{Queue}
+use Rattle.queue.specs.declared.replies.Replies.{Replies}
 use Rattle.queue.specs.Queues.{waiting, tidy}
 use Rattle.queue.proofs.Meaning.{tidy-short, tidy-queueOf}
+use Rattle.queue.proofs.ReplyMeaning.{popped-replies-tidy}
 use Rattle.record.specs.declared.Keys.{Keys}
 use Rattle.record.specs.declared.Dock.{Dock}
 use Rattle.record.specs.declared.Rest.{Rest}
@@ -39,7 +41,7 @@ use Rattle.dock.specs.Closing.{closing, restInRange}
 use Rattle.dock.specs.Scan.{listening, counting, changed, quiet, repeating, heardScan, scanned, scanOf}
 use Rattle.dock.specs.Swap.{opened, remapped, swapped, swapOf}
 use Rattle.dock.specs.Frame.{tookFrame, frameOf}
-use Rattle.dock.specs.Read.{oldest, behindIt, remembering, replyTaken, keyByteTaken, read, readOf}
+use Rattle.dock.specs.Read.{oldest, behindIt, oldestReply, repliesBehind, remembering, replyTaken, keyByteTaken, read, readOf}
 
 abbrev InRange : Dock → Type 0
 InRange d = inRange d ≡ true
@@ -123,8 +125,8 @@ behind-it-tidy q t =
     let bytes = take (q .length) (q .bytes) in
     tidy-queueOf _ (omega (arith, length-drop 1 bytes, length-take (q .length) (q .bytes), tidy-short q t))
 
-pub reply-in-range : (d : Dock) → inRange d ≡ true → inRange (withReplies d (behindIt (d .replies))) ≡ true
-reply-in-range d h = in-range-with-replies d h _ (behind-it-tidy (d .replies) (in-range-replies d h))
+pub reply-in-range : (d : Dock) → inRange d ≡ true → inRange (withReplies d (repliesBehind (d .replies))) ≡ true
+reply-in-range d h = in-range-with-replies d h _ (popped-replies-tidy (d .replies) (in-range-replies d h))
 
 pub key-byte-in-range : (d : Dock) → inRange d ≡ true
     → inRange (withKeys d (withQueue (d .keys) (behindIt (d .keys .queue)))) ≡ true
@@ -134,26 +136,28 @@ key-byte-in-range d h =
     in-range-with-keys d h _ (good-keys-with-queue (d .keys) good (behindIt (d .keys .queue)) tidied)
 
 -- Which byte was given makes no difference to that.
-module _ (d : Dock) (h : inRange d ≡ true) (rest : Queue) (byte : ℕ) (kept : Dock) where
-  pub reply-leaves-range : rest ≡ behindIt (d .replies) → kept ≡ remembering (withReplies d rest) byte → inRange kept ≡ true
-  unfolding remembering
-  reply-leaves-range e k = rw (k, e) (in-range-with-given (withReplies d (behindIt (d .replies))) (reply-in-range d h) _)
-
-  pub key-byte-leaves-range : rest ≡ behindIt (d .keys .queue) → kept ≡ remembering (withKeys d (withQueue (d .keys) rest)) byte
+module _ (d : Dock) (h : inRange d ≡ true) (byte : ℕ) (kept : Dock) where
+  pub reply-leaves-range : (rest : Replies) → rest ≡ repliesBehind (d .replies) → kept ≡ remembering (withReplies d rest) byte
       → inRange kept ≡ true
   unfolding remembering
-  key-byte-leaves-range e k =
+  reply-leaves-range rest e k =
+      rw (k, e) (in-range-with-given (withReplies d (repliesBehind (d .replies))) (reply-in-range d h) _)
+
+  pub key-byte-leaves-range : (rest : Queue) → rest ≡ behindIt (d .keys .queue) → kept ≡ remembering (withKeys d (withQueue (d .keys) rest)) byte
+      → inRange kept ≡ true
+  unfolding remembering
+  key-byte-leaves-range rest e k =
       rw (k, e) (in-range-with-given (withKeys d (withQueue (d .keys) (behindIt (d .keys .queue)))) (key-byte-in-range d h) _)
 
 reply-taken-in-range : (d : Dock) → inRange d ≡ true → inRange (replyTaken d .dock) ≡ true
 unfolding replyTaken
 reply-taken-in-range d h =
-    closing-in-range _ (reply-leaves-range d h (behindIt (d .replies)) (oldest (d .replies)) _ refl refl)
+    closing-in-range _ (reply-leaves-range d h (oldestReply (d .replies)) _ (repliesBehind (d .replies)) refl refl)
 
 key-byte-taken-in-range : (d : Dock) → inRange d ≡ true → inRange (keyByteTaken d .dock) ≡ true
 unfolding keyByteTaken
 key-byte-taken-in-range d h =
-    closing-in-range _ (key-byte-leaves-range d h (behindIt (d .keys .queue)) (oldest (d .keys .queue)) _ refl refl)
+    closing-in-range _ (key-byte-leaves-range d h (oldest (d .keys .queue)) _ (behindIt (d .keys .queue)) refl refl)
 
 abbrev KeptToo : Taken → Type 0
 KeptToo t = inRange (t .dock) ≡ true

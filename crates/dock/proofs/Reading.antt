@@ -7,7 +7,9 @@ use native.Mathlib.Omega.{arith}
 use borrow.Author.Tests.{eq-eqb, ne-eqb}
 use lib.ListN.{getD, take}
 use Rattle.queue.specs.declared.Queue.{Queue}
+use Rattle.queue.specs.declared.replies.Replies.{Replies}
 use Rattle.queue.specs.Queues.{waiting}
+use Rattle.queue.specs.Replies.{waitingReplies}
 use Rattle.record.specs.declared.Dock.{Dock}
 use Rattle.record.specs.Parts.{withKeys, withReplies, withQueue}
 use Rattle.record.specs.Range.{inRange}
@@ -15,9 +17,9 @@ use Rattle.dock.specs.declared.Given.the-variants.{Nothing, Reply, KeyBy
 use Rattle.dock.specs.declared.Taken.{Taken}
 use Rattle.dock.specs.Answers.{taken}
 use Rattle.dock.specs.Closing.{closing}
-use Rattle.dock.specs.Read.{oldest, behindIt, remembering, replyTaken, keyByteTaken, read, readOf}
+use Rattle.dock.specs.Read.{oldest, behindIt, oldestReply, repliesBehind, remembering, replyTaken, keyByteTaken, read, readOf}
 
--- The oldest byte of a queue stands in front.
+-- The oldest byte of a queue stands in front, and so does the oldest reply.
 front : (n : ℕ) (l : List ℕ) → 1 ≤ n → getD l 0 0 ≡ getD (take n l) 0 0
 front zero l h = absurd (omega arith)
 front (suc n) [] h = refl
@@ -27,17 +29,21 @@ pub oldest-in-front : (q : Queue) → 1 ≤ q .length → getD (q .bytes) 0 0 �
 unfolding waiting
 oldest-in-front q h = front (q .length) (q .bytes) h
 
--- A byte was given.
-module _ (d : Dock) (rest : Queue) (byte : ℕ) (kept r : Dock) (i : r ≡ closing kept) where
-  pub reply-given : byte ≡ oldest (d .replies) → rest ≡ behindIt (d .replies) → kept ≡ remembering (withReplies d rest) byte
-      → taken (Reply byte) r ≡ replyTaken d
-  unfolding replyTaken
-  reply-given b e k = rw (i, k, e, b)
+pub oldest-reply-in-front : (r : Replies) → 1 ≤ r .length → getD (r .bytes) 0 0 ≡ oldestReply r
+unfolding waitingReplies
+oldest-reply-in-front r h = front (r .length) (r .bytes) h
 
-  pub key-byte-given : byte ≡ oldest (d .keys .queue) → rest ≡ behindIt (d .keys .queue)
+-- A byte was given.
+module _ (d : Dock) (byte : ℕ) (kept r : Dock) (i : r ≡ closing kept) where
+  pub reply-given : (rest : Replies) → byte ≡ oldestReply (d .replies) → rest ≡ repliesBehind (d .replies)
+      → kept ≡ remembering (withReplies d rest) byte → taken (Reply byte) r ≡ replyTaken d
+  unfolding replyTaken
+  reply-given rest b e k = rw (i, k, e, b)
+
+  pub key-byte-given : (rest : Queue) → byte ≡ oldest (d .keys .queue) → rest ≡ behindIt (d .keys .queue)
       → kept ≡ remembering (withKeys d (withQueue (d .keys) rest)) byte → taken (KeyByte byte) r ≡ keyByteTaken d
   unfolding keyByteTaken
-  key-byte-given b e k = rw (i, k, e, b)
+  key-byte-given rest b e k = rw (i, k, e, b)
 
 -- The whole call.
 module _ (d : Dock) where

@@ -2,13 +2,10 @@
 use mathlib.Core.Path.{_≡_, sym}
 use mathlib.Core.Bool.{Bool, true, false, not, _&&_, and-assoc}
 use mathlib.Core.List.{List}
-use Prim.Native.Nat.{ℕ, zero, suc, _+_}
-use native.Mathlib.Nat.{zero-add}
-use native.Mathlib.Omega.{arith}
+use Prim.Native.Nat.{ℕ}
 use borrow.Author.Tests.{eq-eqb, ne-eqb}
 use lib.Dec.{eqb}
 use lib.ListN.{length}
-use Rattle.basics.specs.Choice.{both}
 use Rattle.contacts.specs.declared.Contacts.{Contacts}
 use Rattle.contacts.specs.Phantom.{isPhantom}
 use Rattle.contacts.specs.Counts.{countedOf}
@@ -21,7 +18,7 @@ use Rattle.record.specs.Range.{inRange}
 use Rattle.dock.specs.declared.Answer.the-variants.{Accepted, ScanLength, BadRecord}
 use Rattle.dock.specs.Answers.{answered}
 use Rattle.dock.specs.Closing.{closing}
-use Rattle.dock.specs.Scan.{listening, counting, changed, repeating, heardScan, scanned, scanOf}
+use Rattle.dock.specs.Scan.{listening, counting, changed, quiet, repeating, heardScan, scanned, scanOf}
 
 -- Are scans listened to: the three tests, joined as the code joins them.
 pub joined-listening : (d : Dock) → (d .scanning && eqb (d .waiting) 0 && not (d .handover)) ≡ listening d
@@ -35,16 +32,10 @@ pub counted-by-parts : (d : Dock) (scan : List ℕ) (after : Contacts) (keys : K
 unfolding counting
 counted-by-parts d scan after keys e f = rw (f, e)
 
--- No reply and no key byte waits: their number is 0.
-none-wait : (a b : ℕ) → eqb (a + b) 0 ≡ both (eqb a 0) (eqb b 0)
-none-wait zero b = rw zero-add
-none-wait (suc a) b = rw (ne-eqb (suc a) 0 (λ e. omega arith), ne-eqb (suc a + b) 0 (λ e. omega arith))
-
-pub repeated-when-quiet : (d : Dock) (keys : Keys)
-    → keys ≡ repeated (d .keys) (d .mode) (d .types) (eqb (d .replies .length + d .keys .queue .length) 0)
-    → withKeys d keys ≡ repeating d
+-- The repeat, where neither a reply nor a key byte waits.
+pub repeated-when-quiet : (d : Dock) (keys : Keys) → keys ≡ repeated (d .keys) (d .mode) (d .types) (quiet d) → withKeys d keys ≡ repeating d
 unfolding repeating
-repeated-when-quiet d keys e = rw (e, none-wait)
+repeated-when-quiet d keys e = rw e
 
 -- What a scan changes: nothing if it is phantom.
 module _ (d : Dock) (scan : List ℕ) (phantom : Bool) (p : phantom ≡ isPhantom scan) where

@@ -4,7 +4,9 @@ use lib.Dec.{eqb}
 use lib.ListN.{getD, drop}
 use Rattle.basics.specs.Choice.{pick}
 use Rattle.queue.specs.declared.Queue.{Queue}
+use Rattle.queue.specs.declared.replies.Replies.{Replies}
 use Rattle.queue.specs.Queues.{waiting, queueOf}
+use Rattle.queue.specs.Replies.{waitingReplies, repliesOf}
 use Rattle.record.specs.declared.Dock.{Dock}
 use Rattle.record.specs.Parts.{withKeys, withReplies, withGiven, withQueue}
 use Rattle.record.specs.Range.{inRange}
@@ -20,6 +22,13 @@ oldest q = getD (waiting q) 0 0
 abbrev pub behindIt : Queue → Queue
 behindIt q = queueOf (drop 1 (waiting q))
 
+-- The same of the replies.
+abbrev pub oldestReply : Replies → ℕ
+oldestReply r = getD (waitingReplies r) 0 0
+
+abbrev pub repliesBehind : Replies → Replies
+repliesBehind r = repliesOf (drop 1 (waitingReplies r))
+
 -- A byte was given: what is sent again on FE is the last one that was not FE itself.
 unfoldable pub remembering : Dock → ℕ → Dock
 remembering d byte = withGiven d (pick (eqb byte 0xfe) (d .given) byte)
@@ -27,7 +36,8 @@ remembering d byte = withGiven d (pick (eqb byte 0xfe) (d .given) byte)
 -- The oldest reply is given.
 unfoldable pub replyTaken : Dock → Taken
 replyTaken d =
-    taken (Reply (oldest (d .replies))) (closing (remembering (withReplies d (behindIt (d .replies))) (oldest (d .replies))))
+    let byte = oldestReply (d .replies) in
+    taken (Reply byte) (closing (remembering (withReplies d (repliesBehind (d .replies))) byte))
 
 -- The oldest key byte is given.
 unfoldable pub keyByteTaken : Dock → Taken

@@ -37,7 +37,7 @@ fn take_reply(held: &mut [u8; 144], types: &[u8; 105], r: Rest) -> Gave
     let q = r.replies;
     let byte = q.bytes[0];
     let mut e = r;
-    e.replies = queue::popped(q);
+    e.replies = queue::replies::popped(q);
     Gave {
         given: Given::Reply(byte),
         rest: close_in_place(held, types, remember(e, byte)),

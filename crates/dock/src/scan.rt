@@ -78,7 +78,7 @@ fn repeat(held: &[u8; 144], types: &[u8; 105], r: Rest) -> Rest
     let replies = r.replies;
     let o = r.outgoing;
     let q = o.queue;
-    let quiet = replies.length + q.length == 0;
+    let quiet = (replies.length == 0) & (q.length == 0);
     let m = r.mode;
     let repeated = keying::repeating::repeat(held, o, m, types, quiet);
     let mut e = r;

@@ -11,7 +11,9 @@ use Rattle.basics.specs.Choice.{pick, both, either, between}
 use Rattle.basics.proofs.Flags.{left-of-both, right-of-both}
 use Rattle.lookup.specs.Lookup.{keyWith}
 use Rattle.queue.specs.Queues.{queueOf}
+use Rattle.queue.specs.Replies.{repliesOf}
 use Rattle.queue.proofs.Meaning.{tidy-queueOf}
+use Rattle.queue.proofs.ReplyMeaning.{tidy-repliesOf}
 use Rattle.record.specs.declared.Dock.{Dock}
 use Rattle.record.specs.Power.{defaultTypes, freshWith, powerOn}
 use Rattle.record.specs.Range.{takesValue, goodWaiting, inRange}
@@ -29,14 +31,14 @@ picked : (t : Bool) (x y : Dock) → (t ≡ true → inRange x ≡ true) → inR
 picked true x y f g = f refl
 picked false x y f g = g
 
-short : (t : Bool) (x y : List ℕ) → length x ≤ 16 → length y ≤ 16 → length (pick t x y) ≤ 16
+short : (t : Bool) (x y : List ℕ) → length x ≤ 3 → length y ≤ 3 → length (pick t x y) ≤ 3
 short true x y f g = f
 short false x y f g = g
 
--- The replies to a command are few.
-replies-few : (byte : ℕ) → length (replyTo byte) ≤ 16
+-- No command is answered with more than three bytes.
+pub reply-short : (byte : ℕ) → length (replyTo byte) ≤ 3
 unfolding replyTo
-replies-few byte =
+reply-short byte =
     short (eqb byte 0xee) (0xee ∷ []) _ (omega arith)
     (short (either (eqb byte 0xef) (eqb byte 0xf1)) (0xfe ∷ []) _ (omega arith)
     (short (eqb byte 0xf2) (0xfa ∷ 0xab ∷ 0x83 ∷ []) _ (omega arith)
@@ -52,8 +54,8 @@ waits-well byte true e = rw e (always (eqb byte 0))
 waits-well byte false e = refl
 
 module _ (d : Dock) (h : inRange d ≡ true) where
-  pub replying-in-range : (bytes : List ℕ) → length bytes ≤ 16 → inRange (replying bytes d) ≡ true
-  replying-in-range bytes few = in-range-with-replies d h (queueOf bytes) (tidy-queueOf bytes few)
+  pub replying-in-range : (bytes : List ℕ) → length bytes ≤ 3 → inRange (replying bytes d) ≡ true
+  replying-in-range bytes few = in-range-with-replies d h (repliesOf bytes) (tidy-repliesOf bytes few)
 
   cleared-in-range : inRange (cleared d) ≡ true
   cleared-in-range = in-range-with-keys d h _ (good-keys-with-queue (d .keys) (in-range-keys d h) (queueOf []) (tidy-queueOf [] (omega arith)))
@@ -113,7 +115,7 @@ module _ (d : Dock) (h : inRange d ≡ true) where
   unfolding commanded
   commanded-in-range byte =
       let waits = in-range-with-waiting (obeyed byte d) (obeyed-in-range byte) _ (waits-well byte (takesValue byte) refl) in
-      replying-in-range _ waits (replyTo byte) (replies-few byte)
+      replying-in-range _ waits (replyTo byte) (reply-short byte)
 
   -- A value that is right for its command.
   valued-in-range : (command value : ℕ) → rightValue command value ≡ true → inRange (valued command value d) ≡ true

@@ -9,8 +9,8 @@ use lib.Dec.{eqb}
 use Rattle.basics.specs.Choice.{pick, both, between}
 use Rattle.basics.proofs.Flags.{left-of-both, right-of-both}
 use Rattle.lookup.specs.Lookup.{keyWith}
-use Rattle.queue.specs.declared.Queue.{Queue}
-use Rattle.queue.specs.Queues.{queueOf}
+use Rattle.queue.specs.declared.replies.Replies.{Replies}
+use Rattle.queue.specs.Replies.{repliesOf}
 use Rattle.record.specs.declared.Dock.{Dock}
 use Rattle.record.specs.Parts.{withReplies, withWaiting}
 use Rattle.record.specs.Range.{takesValue}
@@ -62,7 +62,7 @@ unfolding replyTo
 reply-other byte a b c e f = rw (ne-eqb byte 0xee a, ne-eqb byte 0xef b, ne-eqb byte 0xf1 c, ne-eqb byte 0xf2 e, ne-eqb byte 0xff f)
 
 -- A command that takes a value, and one that does not.
-module _ (byte : ℕ) (d new : Dock) (replies : Queue) (e : new ≡ obeyed byte d) (f : replies ≡ queueOf (replyTo byte))
+module _ (byte : ℕ) (d new : Dock) (replies : Replies) (e : new ≡ obeyed byte d) (f : replies ≡ repliesOf (replyTo byte))
     (b : Bool) (g : b ≡ takesValue byte) where
   pub command-waits : b ≡ true → withReplies (withWaiting new byte) replies ≡ commanded byte d
   unfolding commanded

@@ -7,6 +7,7 @@ use lib.ListN.{replicate, set}
 use Rattle.basics.specs.Choice.{pick, both, either, between}
 use Rattle.lookup.specs.Lookup.{keyWith}
 use Rattle.queue.specs.Queues.{queueOf}
+use Rattle.queue.specs.Replies.{repliesOf}
 use Rattle.record.specs.declared.Dock.{Dock}
 use Rattle.record.specs.Parts.{withKeys, withTypes, withMode, withReplies, withScanning, withWaiting, withQueue, withRepeat}
 use Rattle.record.specs.Power.{freshWith, defaultTypes}
@@ -14,7 +15,7 @@ use Rattle.record.specs.Range.{takesValue}
 
 -- The replies that a byte leaves waiting, instead of those before.
 abbrev pub replying : List ℕ → Dock → Dock
-replying bytes d = withReplies d (queueOf bytes)
+replying bytes d = withReplies d (repliesOf bytes)
 
 -- No key byte waits; no key repeats.
 abbrev pub cleared : Dock → Dock

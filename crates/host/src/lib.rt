@@ -15,7 +15,7 @@ pub fn reply(r: Rest, byte: u8) -> Rest
     ensures { λ e. ⌜ ((map closed counts held types : List ℕ) → dockWith map closed counts held types e ≡ replying (byte ∷ []) (dockWith map closed counts held types r)) ⌝ }
 {
     let mut e = r;
-    e.replies = answers::one(byte);
+    e.replies = queue::replies::one(byte);
     e
 }
 

@@ -20,7 +20,7 @@ use Rattle.queue.specs.Queues.{tidy}
 unfoldable pub Seen : Queue → Bool → ℕ → Type 0
 Seen q good i = tidy q ≡ both good (allUpTo 0 (drop (max (q .length) i) (q .bytes)))
 
-no-more-than-0 : (n : ℕ) → leb n 0 ≡ eqb n 0
+pub no-more-than-0 : (n : ℕ) → leb n 0 ≡ eqb n 0
 no-more-than-0 zero = refl
 no-more-than-0 (suc n) = lt-leb (suc n) 0 (omega arith) ∙ sym (ne-eqb (suc n) 0 (λ e. omega arith))
 

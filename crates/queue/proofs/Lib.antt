@@ -4,3 +4,4 @@ pub mod Range
 pub mod Checking
 pub mod Pushing
 pub mod Popping
+pub mod ReplyMeaning

@@ -27,7 +27,7 @@ only-zeros (x ∷ xs) t =
     let none : x ≡ 0 = omega (arith, leb→le x 0 (both-left (leb x 0) (allUpTo 0 xs) t)) in
     ap₂ (λ (y : ℕ) (r : List ℕ). y ∷ r) none (only-zeros xs (both-right (leb x 0) (allUpTo 0 xs) t))
 
-zeros-up-to-0 : (n : ℕ) → allUpTo 0 (replicate n 0) ≡ true
+pub zeros-up-to-0 : (n : ℕ) → allUpTo 0 (replicate n 0) ≡ true
 unfolding allUpTo
 zeros-up-to-0 zero = refl
 zeros-up-to-0 (suc n) = zeros-up-to-0 n

@@ -7,6 +7,8 @@ ghost use Prim.Native.Nat.{_≤_};
 ghost use lib.ListN.{drop};
 ghost use Rattle.queue.specs.Queues.{waiting, queueOf, tidy, contents, hasRoom, lastReplaced, pushedTo};
 
+pub mod replies; // replies.rt: the replies that wait
+
 // The first `length` of `bytes` wait, the oldest in front; zeros stand behind them.
 pub struct Queue {
     pub bytes: [u8; 16],

@@ -7,6 +7,7 @@ use lib.Dec.{leb, eqb}
 use Rattle.basics.specs.Choice.{between}
 use Rattle.basics.specs.Lists.{allUpTo}
 use Rattle.queue.specs.Queues.{tidy}
+use Rattle.queue.specs.Replies.{tidyReplies}
 use Rattle.record.specs.declared.Mode.{Mode}
 use Rattle.record.specs.declared.Outgoing.{Outgoing}
 use Rattle.record.specs.declared.Dock.{Dock}
@@ -23,7 +24,7 @@ unfolding goodKeys
 joined-keys o held queue e = rw (← e) (simp and-assoc)
 
 pub joined-range : (d : Dock) (map keys mode replies value : Bool) → map ≡ allUpTo 104 (d .map) → keys ≡ goodKeys (d .keys)
-    → mode ≡ goodMode (d .mode) → replies ≡ tidy (d .replies) → value ≡ takesValue (d .waiting)
+    → mode ≡ goodMode (d .mode) → replies ≡ tidyReplies (d .replies) → value ≡ takesValue (d .waiting)
     → (map && keys && mode && replies && (eqb (d .waiting) 0 || value)) ≡ inRange d
 unfolding inRange
 joined-range d map keys mode replies value a b c e f = rw (← a, ← b, ← c, ← e, ← f) (simp and-assoc)

@@ -4,16 +4,17 @@ use mathlib.Core.Bool.{true}
 use mathlib.Core.List.{List, [], _∷_}
 use Prim.Native.Nat.{ℕ}
 use Rattle.basics.specs.Lists.{allUpTo}
-use Rattle.queue.specs.declared.Queue.{Queue}
+use Rattle.queue.specs.declared.replies.Replies.{Replies}
 use Rattle.queue.specs.Queues.{tidy, queueOf}
+use Rattle.queue.specs.Replies.{tidyReplies, repliesOf}
 use Rattle.record.specs.Power.{countUp, plainMap, freshWith, powerOn}
 use Rattle.record.specs.Range.{goodMode, goodKeys, inRange}
 use Rattle.record.proofs.Ranges.{in-range}
 
-pub fresh-in-range : (map : List ℕ) (replies : Queue) → allUpTo 104 map ≡ true → tidy replies ≡ true → inRange (freshWith map replies) ≡ true
+pub fresh-in-range : (map : List ℕ) (replies : Replies) → allUpTo 104 map ≡ true → tidyReplies replies ≡ true → inRange (freshWith map replies) ≡ true
 unfolding freshWith goodKeys goodMode tidy queueOf allUpTo
 fresh-in-range map replies good short = in-range (freshWith map replies) good refl refl short refl
 
 pub power-on-in-range : inRange powerOn ≡ true
-unfolding powerOn plainMap countUp allUpTo tidy queueOf
-power-on-in-range = fresh-in-range plainMap (queueOf (0xaa ∷ [])) refl refl
+unfolding powerOn plainMap countUp allUpTo tidyReplies repliesOf
+power-on-in-range = fresh-in-range plainMap (repliesOf (0xaa ∷ [])) refl refl

@@ -8,7 +8,9 @@ use Rattle.basics.specs.Lists.{allUpTo}
 use Rattle.basics.proofs.Flags.{left-of-both, right-of-both}
 use Rattle.contacts.specs.declared.Contacts.{Contacts}
 use Rattle.queue.specs.declared.Queue.{Queue}
+use Rattle.queue.specs.declared.replies.Replies.{Replies}
 use Rattle.queue.specs.Queues.{tidy}
+use Rattle.queue.specs.Replies.{tidyReplies}
 use Rattle.record.specs.declared.Mode.{Mode}
 use Rattle.record.specs.declared.Keys.{Keys}
 use Rattle.record.specs.declared.Dock.{Dock}
@@ -62,7 +64,7 @@ unfolding goodKeys
 good-keys k b c e = rw (b, le-leb (k .repeating) 104 c) (le-leb (k .clock) 240 e)
 
 -- The record.
-pub in-range : (d : Dock) → allUpTo 104 (d .map) ≡ true → goodKeys (d .keys) ≡ true → goodMode (d .mode) ≡ true → tidy (d .replies) ≡ true
+pub in-range : (d : Dock) → allUpTo 104 (d .map) ≡ true → goodKeys (d .keys) ≡ true → goodMode (d .mode) ≡ true → tidyReplies (d .replies) ≡ true
     → goodWaiting (d .waiting) ≡ true → inRange d ≡ true
 unfolding inRange
 in-range d map keys mode replies waiting = rw (map, keys, mode, replies) waiting
@@ -80,7 +82,7 @@ module _ (d : Dock) (h : inRange d ≡ true) where
   unfolding inRange
   in-range-mode = search (left-of-both, right-of-both)
 
-  pub in-range-replies : tidy (d .replies) ≡ true
+  pub in-range-replies : tidyReplies (d .replies) ≡ true
   unfolding inRange
   in-range-replies = search (left-of-both, right-of-both)
 
@@ -109,7 +111,7 @@ module _ (d : Dock) (h : inRange d ≡ true) where
   unfolding inRange
   in-range-with-mode mode g = rw g (rw in-range-mode at h)
 
-  pub in-range-with-replies : (replies : Queue) → tidy replies ≡ true → inRange (withReplies d replies) ≡ true
+  pub in-range-with-replies : (replies : Replies) → tidyReplies replies ≡ true → inRange (withReplies d replies) ≡ true
   unfolding inRange
   in-range-with-replies replies g = rw g (rw in-range-replies at h)
 

@@ -4,12 +4,13 @@ use mathlib.Core.Bool.{Bool}
 use mathlib.Core.List.{List}
 use Rattle.contacts.specs.declared.Contacts.{Contacts}
 use Rattle.queue.specs.declared.Queue.{Queue}
+use Rattle.queue.specs.declared.replies.Replies.{Replies}
 use Rattle.record.specs.declared.Mode.{Mode}
 use Rattle.record.specs.declared.Keys.{Keys}
 use Rattle.record.specs.declared.Dock.{Dock}
 
 -- All parts, in the order of the record.
-abbrev pub dock : List ℕ → Contacts → Keys → List ℕ → Mode → Queue → Bool → ℕ → Bool → ℕ → Dock
+abbrev pub dock : List ℕ → Contacts → Keys → List ℕ → Mode → Replies → Bool → ℕ → Bool → ℕ → Dock
 dock map contacts keys types mode replies scanning waiting handover given =
     record {
       map = map;
@@ -39,7 +40,7 @@ withTypes d types = dock (d .map) (d .contacts) (d .keys) types (d .mode) (d .re
 abbrev pub withMode : Dock → Mode → Dock
 withMode d mode = dock (d .map) (d .contacts) (d .keys) (d .types) mode (d .replies) (d .scanning) (d .waiting) (d .handover) (d .given)
 
-abbrev pub withReplies : Dock → Queue → Dock
+abbrev pub withReplies : Dock → Replies → Dock
 withReplies d replies = dock (d .map) (d .contacts) (d .keys) (d .types) (d .mode) replies (d .scanning) (d .waiting) (d .handover) (d .given)
 
 abbrev pub withScanning : Dock → Bool → Dock

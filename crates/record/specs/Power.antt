@@ -5,8 +5,9 @@ use mathlib.Core.List.{List, [], _∷_, _++_, map}
 use lib.ListN.{replicate}
 use Rattle.keys.specs.declared.Row.{Row}
 use Rattle.keys.specs.Keys.{rows, noRow}
-use Rattle.queue.specs.declared.Queue.{Queue}
+use Rattle.queue.specs.declared.replies.Replies.{Replies}
 use Rattle.queue.specs.Queues.{queueOf}
+use Rattle.queue.specs.Replies.{repliesOf}
 use Rattle.record.specs.declared.Dock.{Dock}
 
 -- n numbers from `first` on.
@@ -23,7 +24,7 @@ unfoldable pub defaultTypes : List ℕ
 defaultTypes = map (λ (r : Row). r .3) (noRow ∷ rows)
 
 -- A dock that has just woken up: set 2, default rate and types, scanning on, indicators off, nothing held, no byte given yet.
-unfoldable pub freshWith : List ℕ → Queue → Dock
+unfoldable pub freshWith : List ℕ → Replies → Dock
 freshWith map replies =
     record {
       map = map;
@@ -40,4 +41,4 @@ freshWith map replies =
 
 -- Power-on: the plain map, and AA waits as a reply.
 unfoldable pub powerOn : Dock
-powerOn = freshWith plainMap (queueOf (0xaa ∷ []))
+powerOn = freshWith plainMap (repliesOf (0xaa ∷ []))

@@ -6,6 +6,7 @@ use lib.Dec.{leb, eqb}
 use Rattle.basics.specs.Choice.{both, either, between}
 use Rattle.basics.specs.Lists.{allUpTo}
 use Rattle.queue.specs.Queues.{tidy}
+use Rattle.queue.specs.Replies.{tidyReplies}
 use Rattle.record.specs.declared.Mode.{Mode}
 use Rattle.record.specs.declared.Keys.{Keys}
 use Rattle.record.specs.declared.Dock.{Dock}
@@ -33,5 +34,5 @@ inRange d =
     both (allUpTo 104 (d .map))
     (both (goodKeys (d .keys))
     (both (goodMode (d .mode))
-    (both (tidy (d .replies))
+    (both (tidyReplies (d .replies))
     (goodWaiting (d .waiting)))))

@@ -1,6 +1,7 @@
 // The dock's record (docs/RULES.md, sections 5 to 8 and 11; docs/RECORD.md lists the range of every part).
 use contacts::Contacts;
 use queue::Queue;
+use queue::replies::Replies;
 
 pub mod power; // power.rt: the record at power-on
 pub mod range; // range.rt: is every part in its range
@@ -28,7 +29,7 @@ pub struct Dock {
     pub keys: Keys,
     pub types: [u8; 105], // the set 3 type of each key, by key number
     pub mode: Mode,
-    pub replies: Queue, // the replies that wait
+    pub replies: Replies, // the replies that wait
     pub scanning: bool,
     pub waiting: u8, // the command that waits for its value, 0 for none
     pub handover: bool, // keys of a panel that was taken away are still to be released
@@ -46,7 +47,7 @@ pub struct Outgoing {
 pub struct Rest {
     pub outgoing: Outgoing,
     pub mode: Mode,
-    pub replies: Queue,
+    pub replies: Replies,
     pub scanning: bool,
     pub waiting: u8,
     pub handover: bool,

@@ -3,7 +3,7 @@ use crate::Dock;
 use crate::Keys;
 use crate::Mode;
 use contacts::Contacts;
-use queue::Queue;
+use queue::replies::Replies;
 ghost use mathlib.Core.Path.{_≡_};
 ghost use Rattle.record.specs.Power.{defaultTypes, freshWith, powerOn};
 
@@ -35,7 +35,7 @@ pub fn default_types() -> [u8; 105]
 }
 
 // A dock that has just woken up, with this map and these replies waiting.
-pub fn fresh(map: [u8; 144], replies: Queue) -> Dock
+pub fn fresh(map: [u8; 144], replies: Replies) -> Dock
     ensures { λ r. ⌜ r ≡ freshWith map replies ⌝ }
 {
     Dock {
@@ -69,9 +69,5 @@ pub fn power_on() -> Dock
     ensures { λ r. ⌜ r ≡ powerOn ⌝ }
 {
     let map = PLAIN;
-    let ready = Queue {
-        bytes: [0xaa, 0, 0, 0, 0, 0, 0, 0, 0, 0, 0, 0, 0, 0, 0, 0],
-        length: 1,
-    };
-    fresh(map, ready)
+    fresh(map, queue::replies::one(0xaa))
 }

@@ -61,7 +61,7 @@ pub fn parts_in_range(map: &[u8; 144], r: Rest) -> bool
     all_up_to(104, map)
         & is_good_outgoing(outgoing)
         & is_good_mode(mode)
-        & queue::is_tidy(replies)
+        & queue::replies::is_tidy(replies)
         & ((r.waiting == 0) | takes_value(r.waiting))
 }
 

@@ -6,6 +6,7 @@ use Rattle.basics.specs.Lists.{allUpTo}
 use Rattle.record.specs.Power.{countUp, plainMap, defaultTypes, freshWith, powerOn}
 use Rattle.record.specs.Range.{inRange, goodMode, goodKeys}
 use Rattle.queue.specs.Queues.{waiting, queueOf, tidy, pushedTo, lastReplaced}
+use Rattle.queue.specs.Replies.{waitingReplies, repliesOf, tidyReplies}
 use Rattle.keys.specs.Keys.{rows, rowOf, codeIn}
 use Rattle.lookup.specs.Lookup.{keyWith, firstWith}
 use Rattle.codes.specs.Codes.{encode, bytesOf, formOf, cursorForm, shiftForm, printForm, pauseForm, before, after, makeOf, breakOf, prefix, codeOf, sendsRelease, mayRepeat, pauseBytes}
@@ -37,5 +38,5 @@ use Rattle.runs.specs.Stories.{Story, outcome, flagged, saidFrom, host, 
 use Rattle.runs.specs.Told.{stories, limestone, heldOn, repeated as repeatedStory, leftAlone, shiftedCursor, shiftedCursorInSet1, twelve, twelvePressed, twelveReleased, longHandover, secondSwap, waitingCommand, thirdScan, pauseStruck, refusals}
 
 pub all-as-told : map (λ (s : Story). outcome (s .earlier) (s .calls)) stories ≡ map (λ (s : Story). s .end) stories
-unfolding ones onesIn allUpTo countUp plainMap defaultTypes freshWith powerOn inRange goodMode goodKeys waiting queueOf tidy pushedTo lastReplaced rows rowOf codeIn keyWith firstWith encode bytesOf formOf cursorForm shiftForm printForm pauseForm before after makeOf breakOf prefix codeOf sendsRelease mayRepeat pauseBytes contact same isPhantom sharesAny countedOf modifiersOf sends queuedOf pressed releasedWith released moved turned turnsTo delayOf intervalOf repeated handedFrom parity packedOf whole unpackedOf obeyed replyTo commanded rightValue valued given tookByte isIn hasDouble closing listening isCounted counting changed repeating heardScan scanned scanOf opened remapped swapped swapOf tookFrame frameOf remembering replyTaken keyByteTaken read readOf heard inSet1 inSet2 inSet3 readByte threeFirst threeInARow saysClosed shownAt lacksRoom overrunsAt overrunsTo begun hears clears isClearing isReset woken scansAfterScan scansAfterSwap scansAfterFrame next afterCalls mayBegin overruns undisturbed outcome flagged saidFrom host nothing showing showingToo stories limestone heldOn repeatedStory leftAlone shiftedCursor shiftedCursorInSet1 twelve twelvePressed twelveReleased givenIn longHandover secondSwap waitingCommand thirdScan pauseStruck refusals
+unfolding ones onesIn allUpTo countUp plainMap defaultTypes freshWith powerOn inRange goodMode goodKeys waiting queueOf tidy waitingReplies repliesOf tidyReplies pushedTo lastReplaced rows rowOf codeIn keyWith firstWith encode bytesOf formOf cursorForm shiftForm printForm pauseForm before after makeOf breakOf prefix codeOf sendsRelease mayRepeat pauseBytes contact same isPhantom sharesAny countedOf modifiersOf sends queuedOf pressed releasedWith released moved turned turnsTo delayOf intervalOf repeated handedFrom parity packedOf whole unpackedOf obeyed replyTo commanded rightValue valued given tookByte isIn hasDouble closing listening isCounted counting changed repeating heardScan scanned scanOf opened remapped swapped swapOf tookFrame frameOf remembering replyTaken keyByteTaken read readOf heard inSet1 inSet2 inSet3 readByte threeFirst threeInARow saysClosed shownAt lacksRoom overrunsAt overrunsTo begun hears clears isClearing isReset woken scansAfterScan scansAfterSwap scansAfterFrame next afterCalls mayBegin overruns undisturbed outcome flagged saidFrom host nothing showing showingToo stories limestone heldOn repeatedStory leftAlone shiftedCursor shiftedCursorInSet1 twelve twelvePressed twelveReleased givenIn longHandover secondSwap waitingCommand thirdScan pauseStruck refusals
 all-as-told = refl

@@ -1,4 +1,4 @@
--- `host::reply` meets its contract: the replies are the queue of the one byte. Assumes nothing.
+-- `host::reply` meets its contract: the replies are the one byte. Assumes nothing.
 use borrow.Author.Needs.{needs}
 use Rattle.host.proofs.reply.Statement.{statement}
 use Rattle.host.proofs.reply.Tie as tie

@@ -32,7 +32,7 @@ returns : tie.Need-returns
 returns c = λ map closed counts.
     let s = c .before .before .before .before .before .before .before in
     let a = s .args in
-    key-byte-given (dockWith map closed counts (a .held .now) (a .types .now) (a .r)) _ _ _ _ (c .close-in-place .ensures map closed counts)
+    key-byte-given (dockWith map closed counts (a .held .now) (a .types .now) (a .r)) _ _ _ (c .close-in-place .ensures map closed counts) _
     (oldest-in-front (a .r .outgoing .queue) (s .pre .1)) (c .before .before .before .popped .ensures)
     (c .before .remember .ensures map closed counts (a .held .now) (a .types .now))
 

@@ -4,7 +4,7 @@ use borrow.Author.Needs.{needs}
 use Rattle.record.specs.Apart.{dockWith}
 use Rattle.record.proofs.Ranges.{in-range-replies}
 use Rattle.dock.proofs.InRange.{reply-leaves-range}
-use Rattle.dock.proofs.Reading.{oldest-in-front, reply-given}
+use Rattle.dock.proofs.Reading.{oldest-reply-in-front, reply-given}
 use Rattle.dock.proofs.read.take_reply.Statement.{statement}
 use Rattle.dock.proofs.read.take_reply.Tie as tie
 
@@ -16,7 +16,7 @@ popped-requires c κs =
     let s = c .before .before in
     let a = s .args in
     let d = dockWith [] [] [] (a .held .now) (a .types .now) (a .r) in
-    in-range-replies d (s .pre .0)
+    (in-range-replies d (s .pre .0), s .pre .1)
 
 remember-requires : tie.Need-remember-requires
 remember-requires c κs = search needs
@@ -32,8 +32,8 @@ returns : tie.Need-returns
 returns c = λ map closed counts.
     let s = c .before .before .before .before .before .before in
     let a = s .args in
-    reply-given (dockWith map closed counts (a .held .now) (a .types .now) (a .r)) _ _ _ _ (c .close-in-place .ensures map closed counts)
-    (oldest-in-front (a .r .replies) (s .pre .1)) (c .before .before .before .popped .ensures)
+    reply-given (dockWith map closed counts (a .held .now) (a .types .now) (a .r)) _ _ _ (c .close-in-place .ensures map closed counts) _
+    (oldest-reply-in-front (a .r .replies) (s .pre .1)) (c .before .before .before .popped .ensures)
     (c .before .remember .ensures map closed counts (a .held .now) (a .types .now))
 
 pub take-reply-spec : {M : Type 1} → statement M

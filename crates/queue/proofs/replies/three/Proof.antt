@@ -1,0 +1,12 @@
+-- `queue::replies::three` meets its contract: the definition computes to the same bytes. Assumes nothing.
+use mathlib.Core.Path.{refl}
+use Rattle.queue.specs.Replies.{repliesOf}
+use Rattle.queue.proofs.replies.three.Statement.{statement}
+use Rattle.queue.proofs.replies.three.Tie as tie
+
+returns : tie.Need-returns
+unfolding repliesOf
+returns c = refl
+
+pub three-spec : {M : Type 1} → statement M
+three-spec = tie.close (tie.spec returns)
