@@ -1,8 +1,9 @@
 -- A key goes down or comes up, as the code meets it: by the sequence that holds its bytes. Assumes nothing.
-use mathlib.Core.Path.{_≡_, sym, ap, _∙_}
+use mathlib.Core.Path.{_≡_, sym, ap}
 use mathlib.Core.Bool.{Bool, true, false}
 use mathlib.Core.List.{List}
 use Prim.Native.Nat.{ℕ}
+use borrow.Author.Tests.{eq-eqb, ne-eqb}
 use lib.ListN.{set}
 use Rattle.codes.specs.declared.Action.the-variants.{Press, Release}
 use Rattle.codes.specs.declared.Sequence.{Sequence}
@@ -12,14 +13,19 @@ use Rattle.queue.specs.declared.Queue.{Queue}
 use Rattle.queue.specs.Queues.{contents}
 use Rattle.record.specs.declared.Mode.{Mode}
 use Rattle.record.specs.declared.Keys.{Keys}
+use Rattle.keying.specs.declared.Told.{Told}
 use Rattle.keying.specs.Sending.{sends, queuedOf}
 use Rattle.keying.specs.Repeat.{delayOf}
-use Rattle.keying.specs.Moves.{pressed, releasedWith, released}
+use Rattle.keying.specs.Moves.{keysTold, pressed, releasedWith, released}
 use Rattle.keying.proofs.Sent.{sequence-is}
 
 -- The keys by their four parts.
 abbrev pub keys : List ℕ → Queue → ℕ → ℕ → Keys
 keys held queue repeating clock = record { held = held; queue = queue; repeating = repeating; clock = clock }
+
+-- The same parts make the same keys.
+pub told-same : (held held′ bytes bytes′ : List ℕ) (t t′ : Told) → held ≡ held′ → bytes ≡ bytes′ → t ≡ t′ → keysTold held bytes t ≡ keysTold held′ bytes′ t′
+told-same held held′ bytes bytes′ t t′ e f g = rw (e, f, g)
 
 module _ (k : Keys) (m : Mode) (type key : ℕ) where
   pub released-by-its-bytes : (s : Sequence) → s ≡ holding (sends k m type key Release) → releasedWith k m key (contents s) ≡ released k m type key
@@ -35,3 +41,12 @@ module _ (k : Keys) (m : Mode) (type key : ℕ) where
     pub pressed-once : may ≡ false → keys (set (k .held) key 1) q 0 0 ≡ pressed k m type key
     unfolding pressed
     pressed-once n = simp (sym t, n, queue-is)
+
+  module _ (q : Queue) (queue-is : q ≡ queuedOf (k .queue) m (sends k m type key Release)) where
+    pub released-repeats : k .repeating ≡ key → keys (set (k .held) key 0) q 0 0 ≡ released k m type key
+    unfolding released releasedWith
+    released-repeats e = simp (eq-eqb _ _ e, queue-is)
+
+    pub released-only : (k .repeating ≡ key → ⊥) → keys (set (k .held) key 0) q (k .repeating) (k .clock) ≡ released k m type key
+    unfolding released releasedWith
+    released-only n = simp (ne-eqb _ _ n, queue-is)

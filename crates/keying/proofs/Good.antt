@@ -1,7 +1,7 @@
 -- Keys in range stay in range, whatever happens to them. Assumes nothing.
-use mathlib.Core.Path.{_≡_, refl}
+use mathlib.Core.Path.{_≡_, ap, _∙_}
 use mathlib.Core.Bool.{Bool, true}
-use mathlib.Core.List.{List, [], _∷_}
+use mathlib.Core.List.{List}
 use Prim.Native.Nat.{ℕ, zero, suc, _+_, _*_, _-_, _/_, _%_, _^_, _≤_, _<_}
 use native.Mathlib.Omega.{arith}
 use borrow.Author.Tests.{leb-true, le-leb}
@@ -62,6 +62,9 @@ unfolding queuedOf waiting
 queued-tidy q m bytes t =
     let short : length (take (q .length) (q .bytes)) ≤ 16 = omega (arith, length-take (q .length) (q .bytes), tidy-short q t) in
     tidy-queueOf _ (pushed-short (markOf (m .set)) (take (q .length) (q .bytes)) bytes short)
+
+pub queued-short : (after q : Queue) (m : Mode) (bytes : List ℕ) → after ≡ queuedOf q m bytes → tidy q ≡ true → after .length ≤ 16
+queued-short after q m bytes e t = tidy-short after (ap tidy e ∙ queued-tidy q m bytes t)
 
 -- No delay and no interval outlasts the clock.
 pub delay-small : (rate : ℕ) → rate ≤ 127 → delayOf rate ≤ 240

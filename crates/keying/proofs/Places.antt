@@ -17,10 +17,10 @@ use Rattle.record.specs.declared.Mode.{Mode}
 use Rattle.record.specs.declared.Keys.{Keys}
 use Rattle.keying.specs.Sending.{sends, queuedOf}
 use Rattle.keying.specs.Repeat.{isDue, repeated}
-use Rattle.keying.specs.Moves.{pressed, releasedWith, released, turnsTo}
+use Rattle.keying.specs.Moves.{pressed, releasedWith, released, moved, turnsTo}
 use Rattle.keying.specs.Handover.{handedFrom}
 use Rattle.keying.proofs.Sent.{sends-short}
-use Rattle.keying.proofs.Kept.{picked, handed-keeps, turns-keep}
+use Rattle.keying.proofs.Kept.{picked, handed-keeps, moved-keeps, turns-keep}
 
 pub record Places (k : Keys) : Type 0 where
   pub flags : length (k .held) ≡ 144
@@ -33,15 +33,33 @@ queued-places q m bytes e =
     places-queueOf _ (pushed-short (markOf (m .set)) (take (q .length) (q .bytes)) bytes short)
 
 module _ (m : Mode) where
+  -- The bytes alone.
+  pressed-bytes : (k : Keys) (type key : ℕ) → length (k .queue .bytes) ≡ 16 → length (pressed k m type key .queue .bytes) ≡ 16
+  unfolding pressed
+  pressed-bytes k type key e = queued-places (k .queue) m (sends k m type key Press) e
+
+  released-bytes : (k : Keys) (type key : ℕ) → length (k .queue .bytes) ≡ 16 → length (released k m type key .queue .bytes) ≡ 16
+  unfolding released releasedWith
+  released-bytes k type key e = queued-places (k .queue) m (sends k m type key Release) e
+
+  pub moved-bytes : (types : List ℕ) (key closed : ℕ) → key ≤ 104 → (k : Keys) → length (k .queue .bytes) ≡ 16
+      → length (moved k m types key closed .queue .bytes) ≡ 16
+  moved-bytes = moved-keeps (λ (k : Keys). length (k .queue .bytes) ≡ 16) m released-bytes (λ k type key h e. pressed-bytes k type key e)
+
+  pub turns-bytes : (types map : List ℕ) → allUpTo 104 map ≡ true → (n : ℕ) (was is : List ℕ) (k : Keys) → length (k .queue .bytes) ≡ 16
+      → length (turnsTo n m types map was is k .queue .bytes) ≡ 16
+  turns-bytes = turns-keep (λ (k : Keys). length (k .queue .bytes) ≡ 16) m released-bytes (λ k type key h e. pressed-bytes k type key e)
+
+  -- Both arrays.
   pub pressed-places : (k : Keys) (type key : ℕ) → Places k → Places (pressed k m type key)
   unfolding pressed
   pressed-places k type key p =
-      record { flags = simp length-set (p .flags); bytes = queued-places (k .queue) m (sends k m type key Press) (p .bytes) }
+      record { flags = simp length-set (p .flags); bytes = pressed-bytes k type key (p .bytes) }
 
   pub released-places : (k : Keys) (type key : ℕ) → Places k → Places (released k m type key)
   unfolding released releasedWith
   released-places k type key p =
-      record { flags = simp length-set (p .flags); bytes = queued-places (k .queue) m (sends k m type key Release) (p .bytes) }
+      record { flags = simp length-set (p .flags); bytes = released-bytes k type key (p .bytes) }
 
   pub turns-places : (types map : List ℕ) → allUpTo 104 map ≡ true → (n : ℕ) (was is : List ℕ) (k : Keys)
       → Places k → Places (turnsTo n m types map was is k)

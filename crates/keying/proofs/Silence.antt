@@ -1,78 +1,152 @@
--- What is sent into a full queue: the mark stands for anything but nothing. Assumes nothing.
+-- What is sent where there is little room: the mark stands for anything but nothing. Assumes nothing.
 use mathlib.Core.Path.{_≡_, refl, sym, ap, _∙_}
 use mathlib.Core.Bool.{Bool, true, false, not}
 use mathlib.Core.List.{List, [], _∷_, _++_}
-use Prim.Native.Nat.{ℕ, suc, _+_, _≤_, _<_}
+use Prim.Native.Nat.{ℕ, _+_, _-_, _%_, _≤_, _<_}
 use native.Mathlib.Omega.{arith}
-use borrow.Author.Tests.{lt-leb}
+use borrow.Author.Tests.{lt-leb, eq-eqb, ne-eqb, eqb-false}
 use lib.Dec.{eqb}
-use lib.ListN.{length, length-append}
-use Rattle.basics.specs.Choice.{pick, either}
+use lib.ListN.{length, length-append, set as put}
+use Rattle.basics.specs.Choice.{pick, both, either}
 use Rattle.codes.specs.declared.Action.the-variants.{Press, Release}
-use Rattle.codes.specs.declared.Form.{Form}
-use Rattle.codes.specs.Codes.{prefix, makeOf, breakOf, before, after, codeOf, isOther, pausesAtOnce, pauseBytes, sendsRelease, bytesOf, encode, formOf}
-use Rattle.keys.specs.Keys.{codeIn, markOf}
+use Rattle.codes.specs.declared.Sequence.{Sequence}
+use Rattle.codes.specs.Codes.{prefix, makeOf, breakOf, before, after, codeOf, isOther, isPause, pausesAtOnce, pauseBytes, sendsRelease, bytesOf, encode, formOf}
+use Rattle.keys.specs.Keys.{codeIn, markOf, makeBreak, typematicMakeBreak}
 use Rattle.queue.specs.declared.Queue.{Queue}
-use Rattle.queue.specs.Queues.{waiting, queueOf, lastReplaced, tidy}
-use Rattle.queue.proofs.Meaning.{length-waiting}
-use Rattle.queue.proofs.Room.{pushed-nothing}
+use Rattle.queue.specs.Queues.{queueWith, waiting, queueOf, lastReplaced, tidy, contents, pushedTo}
+use Rattle.queue.proofs.Meaning.{length-waiting, tidy-short, tidy-is}
+use Rattle.queue.proofs.Room.{pushed-none, pushed-nothing}
+use Rattle.queue.proofs.Pushing.{marked-last}
 use Rattle.record.specs.declared.Mode.{Mode}
-use Rattle.keying.specs.Sending.{queuedOf}
+use Rattle.keying.specs.Sending.{queuedOf, shortestRelease}
 
-picked-some : (b : Bool) (x y : List ℕ) → 1 ≤ length x → 1 ≤ length y → 1 ≤ length (pick b x y)
-picked-some true x y p q = p
-picked-some false x y p q = q
+picked-long : (n : ℕ) (b : Bool) (x y : List ℕ) → n ≤ length x → n ≤ length y → n ≤ length (pick b x y)
+picked-long n true x y p q = p
+picked-long n false x y p q = q
 
-behind : (front rest : List ℕ) → 1 ≤ length rest → 1 ≤ length (front ++ rest)
-behind front rest h = rw (length-append front rest) (omega arith)
+behind : (n : ℕ) (front rest : List ℕ) → n ≤ length rest → n ≤ length (front ++ rest)
+behind n front rest h = rw (length-append front rest) (omega arith)
 
-ahead : (front rest : List ℕ) → 1 ≤ length front → 1 ≤ length (front ++ rest)
-ahead front rest h = rw (length-append front rest) (omega arith)
+ahead : (n : ℕ) (front rest : List ℕ) → n ≤ length front → n ≤ length (front ++ rest)
+ahead n front rest h = rw (length-append front rest) (omega arith)
 
 make-some : (code : ℕ) → 1 ≤ length (makeOf code)
 unfolding makeOf
-make-some code = behind (prefix code) _ (omega arith)
+make-some code = behind 1 (prefix code) _ (omega arith)
 
-break-some : (set code : ℕ) → 1 ≤ length (breakOf set code)
+break-long : (set code : ℕ) → shortestRelease set ≤ length (breakOf set code)
 unfolding breakOf
-break-some set code = behind (prefix code) _ (picked-some (eqb set 1) _ _ (omega arith) (omega arith))
+break-long set code = behind (shortestRelease set) (prefix code) _ (go (eqb set 1))
+  where
+    go : (b : Bool) → pick {A = ℕ} b 1 2 ≤ length (pick b ((code % 128 + 128) ∷ []) (0xf0 ∷ (code % 256) ∷ []))
+    go true = omega arith
+    go false = omega arith
 
 -- A press always sends something.
 pub press-some : (set key type mods : ℕ) (lock : Bool) → 1 ≤ length (encode set key Press type mods lock)
 unfolding encode bytesOf pauseBytes
 press-some set key type mods lock =
     let form = formOf set key mods lock in
-    picked-some (pausesAtOnce set key) _ _
-    (picked-some (isOther form) _ _ (ahead (makeOf (codeIn set 101)) _ (make-some (codeIn set 101))) (omega arith))
-    (behind (before set form) _ (make-some (codeOf set key form)))
+    picked-long 1 (pausesAtOnce set key) _ _
+    (picked-long 1 (isOther form) _ _ (ahead 1 (makeOf (codeIn set 101)) _ (make-some (codeIn set 101))) (omega arith))
+    (behind 1 (before set form) _ (make-some (codeOf set key form)))
 
--- A release does unless it is silent.
-pub release-some : (set key type mods : ℕ) (lock silent : Bool) → silent ≡ either (pausesAtOnce set key) (not (sendsRelease set type)) → silent ≡ false
-    → 1 ≤ length (encode set key Release type mods lock)
-unfolding encode bytesOf
-release-some set key type mods lock silent e f = go (pausesAtOnce set key) (sendsRelease set type) (sym e ∙ f)
+-- A silent release sends nothing, and any other has as many bytes as the shortest, or more.
+module _ (set key type mods : ℕ) (lock silent : Bool) (e : silent ≡ either (pausesAtOnce set key) (not (sendsRelease set type))) where
+  broken : List ℕ
+  broken = breakOf set (codeOf set key (formOf set key mods lock)) ++ after set (formOf set key mods lock)
+
+  pub release-none : silent ≡ true → encode set key Release type mods lock ≡ []
+  unfolding encode bytesOf broken
+  release-none t = go (pausesAtOnce set key) (sendsRelease set type) (sym e ∙ t)
+    where
+      go : (p s : Bool) → either p (not s) ≡ true → pick p [] (pick s broken []) ≡ []
+      go true s n = refl
+      go false false n = refl
+      go false true n =
+          let y : false ≡ true = n in
+          let z : _≡_ {A = ℕ} 0 1 = cc in
+          absurd (omega arith)
+
+  pub release-long : silent ≡ false → shortestRelease set ≤ length (encode set key Release type mods lock)
+  unfolding encode bytesOf broken
+  release-long f = go (pausesAtOnce set key) (sendsRelease set type) (sym e ∙ f)
+    where
+      go : (p s : Bool) → either p (not s) ≡ false → shortestRelease set ≤ length (pick p [] (pick s broken []))
+      go false true n =
+          ahead (shortestRelease set) (breakOf set (codeOf set key (formOf set key mods lock))) (after set (formOf set key mods lock))
+          (break-long set (codeOf set key (formOf set key mods lock)))
+      go true s n =
+          let y : true ≡ false = n in
+          let z : _≡_ {A = ℕ} 0 1 = cc in
+          absurd (omega arith)
+      go false false n =
+          let y : true ≡ false = n in
+          let z : _≡_ {A = ℕ} 0 1 = cc in
+          absurd (omega arith)
+
+-- Where the shortest release has no room, some byte waits, and no longer one has room either.
+pub little-room : (set at n : ℕ) → n ≡ shortestRelease set → 16 - at < n → 1 ≤ at
+little-room set at n e h = go (eqb set 1) e
   where
-    bytes : List ℕ
-    bytes = breakOf set (codeOf set key (formOf set key mods lock)) ++ after set (formOf set key mods lock)
+    go : (b : Bool) → n ≡ pick {A = ℕ} b 1 2 → 1 ≤ at
+    go true f = omega arith
+    go false f = omega arith
 
-    go : (p s : Bool) → either p (not s) ≡ false → 1 ≤ length (pick p [] (pick s bytes []))
-    go false true n =
-        ahead (breakOf set (codeOf set key (formOf set key mods lock))) (after set (formOf set key mods lock))
-        (break-some set (codeOf set key (formOf set key mods lock)))
-    go true s n =
-        let y : true ≡ false = n in
-        let z : _≡_ {A = ℕ} 0 1 = cc in
-        omega arith
-    go false false n =
-        let y : true ≡ false = n in
-        let z : _≡_ {A = ℕ} 0 1 = cc in
-        omega arith
+pub too-long : (set at n count : ℕ) → n ≡ shortestRelease set → shortestRelease set ≤ count → 16 - at < n → 16 < at + count
+too-long set at n count e h l = omega arith
 
--- In a full queue the mark takes the place of the last byte.
-pub full-is-marked : (q : Queue) (m : Mode) (bytes : List ℕ) (mark : ℕ) (r : Queue) → tidy q ≡ true → length (q .bytes) ≡ 16 → q .length ≡ 16
-    → 1 ≤ length bytes → mark ≡ markOf (m .set) → r ≡ queueOf (lastReplaced mark (waiting q)) → r ≡ queuedOf q m bytes
-unfolding queuedOf
-full-is-marked q m bytes mark r t places full some e f =
-    let count : length (waiting q) ≡ q .length = length-waiting q t places in
-    let none = pushed-nothing (markOf (m .set)) (waiting q) bytes (lt-leb (length (waiting q) + length bytes) 16 (omega (arith, count))) in
-    f ∙ ap (λ (x : ℕ). queueOf (lastReplaced x (waiting q))) e ∙ ap queueOf (sym none)
+-- Which releases are silent: in set 3 the type says, else it is that of PAUSE.
+pub silent-by-type : (set key type : ℕ) → set ≡ 3
+    → both (not (eqb type makeBreak)) (not (eqb type typematicMakeBreak)) ≡ either (pausesAtOnce set key) (not (sendsRelease set type))
+unfolding sendsRelease
+silent-by-type set key type e = rw e (go (isPause key) (eqb type makeBreak) (eqb type typematicMakeBreak))
+  where
+    go : (p a b : Bool) → both (not a) (not b) ≡ either (both p false) (not (either a b))
+    go true true b = refl
+    go true false b = refl
+    go false true b = refl
+    go false false b = refl
+
+pub silent-by-key : (set key type : ℕ) → 1 ≤ set → set ≤ 3 → (set ≡ 3 → ⊥)
+    → isPause key ≡ either (pausesAtOnce set key) (not (sendsRelease set type))
+unfolding sendsRelease
+silent-by-key set key type low high n = rw (ne-eqb set 3 n) (go (isPause key) (eqb set 1) refl)
+  where
+    go : (p b : Bool) → eqb set 1 ≡ b → p ≡ either (both p (either b (eqb set 2))) false
+    go true true e = refl
+    go false true e = refl
+    go false false e = refl
+    go true false e =
+        let other : set ≡ 2 = omega (arith, eqb-false set 1 e) in
+        rw (eq-eqb set 2 other)
+
+-- What waits then, as the code finds it.
+module _ (b : List ℕ) (at : ℕ) (m : Mode) (bytes : List ℕ) (t : tidy (queueWith b at) ≡ true) (places : length b ≡ 16) where
+  -- Nothing is sent.
+  pub nothing-queued : bytes ≡ [] → queueWith b at ≡ queuedOf (queueWith b at) m bytes
+  unfolding queuedOf
+  nothing-queued e =
+      let q = queueWith b at in
+      let short : length (waiting q) ≤ 16 = omega (arith, length-waiting q t places, tidy-short q t) in
+      tidy-is q places t ∙ ap queueOf (sym (pushed-none (markOf (m .set)) (waiting q) short) ∙ ap (pushedTo (markOf (m .set)) (waiting q)) (sym e))
+
+  -- There is no room, and the mark takes the place of the last byte.
+  module _ (mark : ℕ) (mark-is : mark ≡ markOf (m .set)) where
+    pub no-room-marks : 1 ≤ at → 16 < at + length bytes → queueWith (put b (at - 1) mark) at ≡ queuedOf (queueWith b at) m bytes
+    unfolding queuedOf
+    no-room-marks some full =
+        let q = queueWith b at in
+        let count : length (waiting q) ≡ at = length-waiting q t places in
+        let none = pushed-nothing (markOf (m .set)) (waiting q) bytes (lt-leb (length (waiting q) + length bytes) 16 (omega (arith, count))) in
+        marked-last q t places mark some ∙ ap (λ (x : ℕ). queueOf (lastReplaced x (waiting q))) mark-is ∙ ap queueOf (sym none)
+
+    pub full-marks : at ≡ 16 → 1 ≤ length bytes → queueWith (put b 15 mark) 16 ≡ queuedOf (queueWith b at) m bytes
+    full-marks full some =
+        ap (λ (n : ℕ). queueWith (put b (n - 1) mark) n) (sym full) ∙ no-room-marks (omega arith) (omega arith)
+
+    -- The bytes are pushed.
+    pub pushed-queues : (after : Queue) (s : Sequence) → contents s ≡ bytes
+        → after ≡ queueOf (pushedTo mark (waiting (queueWith b at)) (contents s)) → after ≡ queuedOf (queueWith b at) m bytes
+    unfolding queuedOf
+    pushed-queues after s c e = rw (← c, ← mark-is) e

@@ -8,10 +8,17 @@ use Rattle.codes.specs.declared.Action.the-variants.{Press, Release}
 use Rattle.codes.specs.Codes.{mayRepeat}
 use Rattle.contacts.specs.Scans.{rowOf, contact}
 use Rattle.queue.specs.declared.Queue.{Queue}
+use Rattle.queue.specs.Queues.{queueWith}
 use Rattle.record.specs.declared.Mode.{Mode}
 use Rattle.record.specs.declared.Keys.{Keys}
+use Rattle.keying.specs.declared.Told.{Told}
 use Rattle.keying.specs.Sending.{sends, queuedOf}
 use Rattle.keying.specs.Repeat.{delayOf}
+
+-- The keys of these parts: the flags, the bytes of the queue, and the rest.
+abbrev pub keysTold : List ℕ → List ℕ → Told → Keys
+keysTold held bytes t =
+    record { held = held; queue = queueWith bytes (t .length); repeating = t .repeating; clock = t .clock }
 
 -- A key is pressed: it is held, its bytes are queued, and it is the one that repeats, if it may; else none does.
 unfoldable pub pressed : Keys → Mode → ℕ → ℕ → Keys

@@ -37,3 +37,7 @@ sends k m type key action = sendsWith (k .held) m type key action
 -- The queue with bytes behind it, or with the set's overrun mark if they do not fit.
 unfoldable pub queuedOf : Queue → Mode → List ℕ → Queue
 queuedOf q m bytes = queueOf (pushedTo (markOf (m .set)) (waiting q) bytes)
+
+-- The bytes that a release has at least, unless it sends nothing: in set 1 the code alone, else F0 before it.
+abbrev pub shortestRelease : ℕ → ℕ
+shortestRelease set = pick (eqb set 1) 1 2

@@ -18,3 +18,10 @@ pub struct Passed {
     pub outgoing: Outgoing,
     pub unfinished: bool,
 }
+
+// What goes to the terminal where the bytes that wait are lent: how many of them wait, the key that repeats, and its clock.
+pub struct Told {
+    pub length: u8,
+    pub repeating: u8,
+    pub clock: u8,
+}

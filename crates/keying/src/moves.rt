@@ -1,9 +1,11 @@
 // A key goes down or comes up. The flags of the held keys are lent, and change in place.
+use crate::Told;
 use crate::repeating::delay_of;
 use crate::sending::queued;
-use crate::sending::queued_press;
-use crate::sending::queued_release;
+use crate::sending::send_press;
+use crate::sending::send_release;
 use codes::Sequence;
+use keys::Table;
 use queue::Queue;
 use record::Mode;
 use record::Outgoing;
@@ -12,19 +14,27 @@ ghost use mathlib.Core.Bool.{true};
 ghost use Prim.Native.Nat.{_≤_, _<_};
 ghost use lib.ListN.{length};
 ghost use Rattle.basics.specs.Lists.{allUpTo};
+ghost use Rattle.keys.specs.Keys.{laidOut};
 ghost use Rattle.queue.specs.Queues.{contents};
 ghost use Rattle.record.specs.Apart.{keysWith};
 ghost use Rattle.record.specs.Range.{goodKeys, goodMode};
-ghost use Rattle.keying.specs.Moves.{pressed, letGo, releasedWith, released, moved, turnsTo, rowsTo};
+ghost use Rattle.keying.specs.Moves.{keysTold, pressed, letGo, releasedWith, released, moved, turnsTo, rowsTo};
 
 // A key is pressed.
-pub fn press(held: &mut [u8; 144], o: Outgoing, m: Mode, kind: u8, key: u8) -> Outgoing
-    requires { ⌜ (goodKeys (keysWith (now held) o) ≡ true) × (goodMode m ≡ true) × (key < 144) ⌝ }
-    ensures { λ r. ⌜ keysWith (now (held .exit)) r ≡ pressed (keysWith (now (held .entry)) o) m kind key ⌝ }
+fn press(
+    held: &mut [u8; 144],
+    bytes: &mut [u8; 16],
+    t: Told,
+    table: &Table,
+    m: Mode,
+    kind: u8,
+    key: u8,
+) -> Told
+    requires { ⌜ (goodKeys (keysTold (now held) (now bytes) t) ≡ true) × (goodMode m ≡ true) × (length (now bytes) ≡ 16) × (key < 144) × (now table ≡ laidOut) ⌝ }
+    ensures { λ r. ⌜ keysTold (now (held .exit)) (now (bytes .exit)) r ≡ pressed (keysTold (now (held .entry)) (now (bytes .entry)) t) m kind key ⌝ }
 {
-    let q = o.queue;
-    let mut e = o;
-    e.queue = queued_press(held, q, m, kind, key);
+    let mut e = t;
+    e.length = send_press(held, bytes, t.length as usize, table, m, kind, key) as u8;
     held[key as usize] = 1;
     if codes::strokes::may_repeat(m.set, key, kind) {
         e.repeating = key;
@@ -33,6 +43,29 @@ pub fn press(held: &mut [u8; 144], o: Outgoing, m: Mode, kind: u8, key: u8) -> O
     }
     e.repeating = 0;
     e.clock = 0;
+    e
+}
+
+// A key is released.
+fn release(
+    held: &mut [u8; 144],
+    bytes: &mut [u8; 16],
+    t: Told,
+    table: &Table,
+    m: Mode,
+    kind: u8,
+    key: u8,
+) -> Told
+    requires { ⌜ (goodKeys (keysTold (now held) (now bytes) t) ≡ true) × (goodMode m ≡ true) × (length (now bytes) ≡ 16) × (key < 144) × (now table ≡ laidOut) ⌝ }
+    ensures { λ r. ⌜ keysTold (now (held .exit)) (now (bytes .exit)) r ≡ released (keysTold (now (held .entry)) (now (bytes .entry)) t) m kind key ⌝ }
+{
+    let mut e = t;
+    e.length = send_release(held, bytes, t.length as usize, table, m, kind, key) as u8;
+    held[key as usize] = 0;
+    if t.repeating == key {
+        e.repeating = 0;
+        e.clock = 0;
+    }
     e
 }
 
@@ -61,57 +94,60 @@ pub fn release_with(held: &mut [u8; 144], o: Outgoing, m: Mode, key: u8, s: Sequ
     let_go(held, o, key, after)
 }
 
-// A key is released.
-pub fn release(held: &mut [u8; 144], o: Outgoing, m: Mode, kind: u8, key: u8) -> Outgoing
-    requires { ⌜ (goodKeys (keysWith (now held) o) ≡ true) × (key < 144) ⌝ }
-    ensures { λ r. ⌜ keysWith (now (held .exit)) r ≡ released (keysWith (now (held .entry)) o) m kind key ⌝ }
-{
-    let q = o.queue;
-    let after = queued_release(held, q, m, kind, key);
-    let_go(held, o, key, after)
-}
-
 // The contact of a key turned, to closed (1) or to open (0).
 fn contact_turned(
     held: &mut [u8; 144],
-    o: Outgoing,
+    bytes: &mut [u8; 16],
+    t: Told,
+    table: &Table,
     m: Mode,
     types: &[u8; 105],
     key: u8,
     closed: u8,
-) -> Outgoing
-    requires { ⌜ (goodKeys (keysWith (now held) o) ≡ true) × (goodMode m ≡ true) × (key ≤ 104) ⌝ }
-    ensures { λ r. ⌜ keysWith (now (held .exit)) r ≡ moved (keysWith (now (held .entry)) o) m (now (types .entry)) key closed ⌝ }
+) -> Told
+    requires { ⌜ (goodKeys (keysTold (now held) (now bytes) t) ≡ true) × (goodMode m ≡ true) × (length (now bytes) ≡ 16) × (key ≤ 104) × (now table ≡ laidOut) ⌝ }
+    ensures { λ r. ⌜ keysTold (now (held .exit)) (now (bytes .exit)) r ≡ moved (keysTold (now (held .entry)) (now (bytes .entry)) t) m (now (types .entry)) key closed ⌝ }
 {
     if key == 0 {
-        return o;
+        return t;
     }
     let kind = types[key as usize];
     if closed == 1 {
-        return press(held, o, m, kind, key);
+        return press(held, bytes, t, table, m, kind, key);
     }
-    release(held, o, m, kind, key)
+    release(held, bytes, t, table, m, kind, key)
 }
 
 // The contacts of a column that turned: only their rows are visited, the lowest first.
 fn column(
     held: &mut [u8; 144],
-    o: Outgoing,
+    bytes: &mut [u8; 16],
+    t: Told,
+    table: &Table,
     m: Mode,
     types: &[u8; 105],
     map: &[u8; 144],
     c: usize,
     was: u8,
     is: u8,
-) -> Outgoing
-    requires { ⌜ (goodKeys (keysWith (now held) o) ≡ true) × (goodMode m ≡ true) × (c < 18) × (allUpTo 104 (now map) ≡ true) ⌝ }
-    ensures { λ r. ⌜ keysWith (now (held .exit)) r ≡ rowsTo 8 m (now (types .entry)) (now (map .entry)) c was is (keysWith (now (held .entry)) o) ⌝ }
+) -> Told
+    requires { ⌜ (goodKeys (keysTold (now held) (now bytes) t) ≡ true) × (goodMode m ≡ true) × (length (now bytes) ≡ 16) × (c < 18) × (allUpTo 104 (now map) ≡ true) × (now table ≡ laidOut) ⌝ }
+    ensures { λ r. ⌜ keysTold (now (held .exit)) (now (bytes .exit)) r ≡ rowsTo 8 m (now (types .entry)) (now (map .entry)) c was is (keysTold (now (held .entry)) (now (bytes .entry)) t) ⌝ }
 {
-    let mut e = o;
+    let mut e = t;
     let mut turned = was ^ is;
     while turned != 0 {
         let r = u8::trailing_zeros(turned) as usize;
-        e = contact_turned(held, e, m, types, map[8 * c + r], (is >> r) % 2);
+        e = contact_turned(
+            held,
+            bytes,
+            e,
+            table,
+            m,
+            types,
+            map[8 * c + r],
+            (is >> r) % 2,
+        );
         turned = turned & (turned - 1);
     }
     e
@@ -130,13 +166,27 @@ pub fn turns(
     requires { ⌜ (goodKeys (keysWith (now held) o) ≡ true) × (goodMode m ≡ true) × (allUpTo 104 (now map) ≡ true) ⌝ }
     ensures { λ r. ⌜ keysWith (now (held .exit)) r ≡ turnsTo 144 m (now (types .entry)) (now (map .entry)) (now (was .entry)) (now (is .entry)) (keysWith (now (held .entry)) o) ⌝ }
 {
-    let mut e = o;
+    let table = keys::table();
+    let q = o.queue;
+    let mut bytes = q.bytes;
+    let mut e = Told {
+        length: q.length as u8,
+        repeating: o.repeating,
+        clock: o.clock,
+    };
     let mut c: usize = 0;
     while c < 18 {
         if was[c] != is[c] {
-            e = column(held, e, m, types, map, c, was[c], is[c]);
+            e = column(held, &mut bytes, e, &table, m, types, map, c, was[c], is[c]);
         }
         c += 1;
     }
-    e
+    Outgoing {
+        queue: Queue {
+            bytes,
+            length: e.length as usize,
+        },
+        repeating: e.repeating,
+        clock: e.clock,
+    }
 }

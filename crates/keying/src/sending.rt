@@ -1,18 +1,21 @@
 // What a key sends as things stand.
 use codes::Action;
 use codes::Sequence;
+use keys::Table;
 use queue::Queue;
 use record::Mode;
 ghost use mathlib.Core.Path.{_≡_};
 ghost use mathlib.Core.Bool.{true, not};
 ghost use Prim.Native.Nat.{_≤_};
+ghost use lib.ListN.{length};
 ghost use Rattle.basics.specs.Choice.{either};
 ghost use Rattle.codes.specs.declared.Action.the-variants.{Press, Release};
 ghost use Rattle.codes.specs.Codes.{pausesAtOnce, sendsRelease};
 ghost use Rattle.codes.specs.Sequences.{holding};
-ghost use Rattle.keys.specs.Keys.{markOf};
-ghost use Rattle.queue.specs.Queues.{tidy, contents};
-ghost use Rattle.keying.specs.Sending.{flagOf, modifiersOf, sendsWith, queuedOf};
+ghost use Rattle.keys.specs.Keys.{markOf, laidOut};
+ghost use Rattle.queue.specs.Queues.{queueWith, tidy, contents};
+ghost use Rattle.record.specs.Range.{goodMode};
+ghost use Rattle.keying.specs.Sending.{flagOf, modifiersOf, sendsWith, queuedOf, shortestRelease};
 
 // A flag that is up counts 1.
 fn flag(x: u8) -> u8
@@ -44,6 +47,18 @@ pub fn bytes_of(held: &[u8; 144], m: Mode, kind: u8, key: u8, action: Action) ->
     codes::strokes::sequence_of(m.set, key, action, kind, modifiers_of(held), lock)
 }
 
+// The same by a key table at hand. A key of one form does not ask what else is held.
+fn bytes_in(held: &[u8; 144], table: &Table, m: Mode, kind: u8, key: u8, action: Action) -> Sequence
+    requires { ⌜ now table ≡ laidOut ⌝ }
+    ensures { λ r. ⌜ r ≡ holding (sendsWith (now (held .entry)) m kind key action) ⌝ }
+{
+    if !codes::forms::has_forms(m.set, key) {
+        return codes::plain::plain_sequence(table, m.set, key, action, kind);
+    }
+    let locked = m.indicators / 2 % 2 == 1;
+    codes::strokes::sequence_in(table, m.set, key, action, kind, modifiers_of(held), locked)
+}
+
 // The overrun mark of a set.
 fn mark_of(set: u8) -> u8
     ensures { λ r. ⌜ r ≡ markOf set ⌝ }
@@ -61,31 +76,64 @@ pub fn queued(q: Queue, m: Mode, s: Sequence) -> Queue
 
 // A release that sends nothing: that of PAUSE, which sent all on its press, and in set 3 those of keys whose type sends none.
 fn is_silent(set: u8, key: u8, kind: u8) -> bool
+    requires { ⌜ (1 ≤ set) × (set ≤ 3) ⌝ }
     ensures { λ r. ⌜ r ≡ either (pausesAtOnce set key) (not (sendsRelease set kind)) ⌝ }
 {
-    let pauses = (key == codes::PAUSE) & ((set == 1) | (set == 2));
-    let sends = (set != 3) | (kind == keys::MAKE_BREAK) | (kind == keys::TYPEMATIC_MAKE_BREAK);
-    pauses | !sends
+    if set == 3 {
+        return (kind != keys::MAKE_BREAK) & (kind != keys::TYPEMATIC_MAKE_BREAK);
+    }
+    key == codes::PAUSE
 }
 
-// The queue after a press. A press sends something, and a full queue takes nothing, so there the mark is put without asking what.
-pub fn queued_press(held: &[u8; 144], q: Queue, m: Mode, kind: u8, key: u8) -> Queue
-    requires { ⌜ tidy q ≡ true ⌝ }
-    ensures { λ r. ⌜ r ≡ queuedOf q m (sendsWith (now (held .entry)) m kind key Press) ⌝ }
+// The bytes that any other release has at least.
+fn shortest_release(set: u8) -> usize
+    ensures { λ r. ⌜ r ≡ shortestRelease set ⌝ }
 {
-    if q.length == 16 {
-        return queue::marked(q, mark_of(m.set));
-    }
-    queued(q, m, bytes_of(held, m, kind, key, Action::Press))
+    if set == 1 { 1 } else { 2 }
 }
 
-// The queue after a release, likewise, unless it sends nothing.
-pub fn queued_release(held: &[u8; 144], q: Queue, m: Mode, kind: u8, key: u8) -> Queue
-    requires { ⌜ tidy q ≡ true ⌝ }
-    ensures { λ r. ⌜ r ≡ queuedOf q m (sendsWith (now (held .entry)) m kind key Release) ⌝ }
+// What a press sends goes behind the first `at` of the bytes, and so many wait then. A press sends something, and a full queue takes
+// nothing, so there the mark is put without asking what.
+pub fn send_press(
+    held: &[u8; 144],
+    bytes: &mut [u8; 16],
+    at: usize,
+    table: &Table,
+    m: Mode,
+    kind: u8,
+    key: u8,
+) -> usize
+    requires { ⌜ (tidy (queueWith (now bytes) at) ≡ true) × (length (now bytes) ≡ 16) × (now table ≡ laidOut) ⌝ }
+    ensures { λ r. ⌜ queueWith (now (bytes .exit)) r ≡ queuedOf (queueWith (now (bytes .entry)) at) m (sendsWith (now (held .entry)) m kind key Press) ⌝ }
 {
-    if (q.length == 16) & !is_silent(m.set, key, kind) {
-        return queue::marked(q, mark_of(m.set));
+    if at == 16 {
+        bytes[15] = mark_of(m.set);
+        return 16;
     }
-    queued(q, m, bytes_of(held, m, kind, key, Action::Release))
+    let s = bytes_in(held, table, m, kind, key, Action::Press);
+    queue::push(bytes, at, s, mark_of(m.set))
+}
+
+// What a release sends, likewise: nothing changes if it is silent, and where the shortest has no room the mark is put.
+pub fn send_release(
+    held: &[u8; 144],
+    bytes: &mut [u8; 16],
+    at: usize,
+    table: &Table,
+    m: Mode,
+    kind: u8,
+    key: u8,
+) -> usize
+    requires { ⌜ (tidy (queueWith (now bytes) at) ≡ true) × (length (now bytes) ≡ 16) × (goodMode m ≡ true) × (now table ≡ laidOut) ⌝ }
+    ensures { λ r. ⌜ queueWith (now (bytes .exit)) r ≡ queuedOf (queueWith (now (bytes .entry)) at) m (sendsWith (now (held .entry)) m kind key Release) ⌝ }
+{
+    if is_silent(m.set, key, kind) {
+        return at;
+    }
+    if 16 - at < shortest_release(m.set) {
+        bytes[at - 1] = mark_of(m.set);
+        return at;
+    }
+    let s = bytes_in(held, table, m, kind, key, Action::Release);
+    queue::push(bytes, at, s, mark_of(m.set))
 }

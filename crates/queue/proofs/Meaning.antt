@@ -13,11 +13,7 @@ use Rattle.basics.proofs.Tables.{both-left, both-right}
 use Rattle.codes.specs.declared.Sequence.{Sequence}
 use Rattle.codes.specs.Sequences.{holding}
 use Rattle.queue.specs.declared.Queue.{Queue}
-use Rattle.queue.specs.Queues.{waiting, queueOf, tidy, contents}
-
--- A queue by its two fields.
-abbrev pub queue : List ℕ → ℕ → Queue
-queue bytes count = record { bytes = bytes; length = count }
+use Rattle.queue.specs.Queues.{queueWith, waiting, queueOf, tidy, contents}
 
 -- A list with no entry over 0 is zeros, and zeros are such a list.
 only-zeros : (l : List ℕ) → T (allUpTo 0 l) → l ≡ replicate (length l) 0
@@ -60,7 +56,7 @@ tidy-is q places t =
     let count : length (take (q .length) (q .bytes)) ≡ q .length = length-waiting q t places in
     let behind = zeros-behind q places t ∙ ap (λ (n : ℕ). replicate (16 - n) 0) (sym count) in
     let whole = sym (take-append-drop (q .length) (q .bytes)) ∙ ap (λ (r : List ℕ). take (q .length) (q .bytes) ++ r) behind in
-    ap₂ queue whole (sym count)
+    ap₂ queueWith whole (sym count)
 
 -- The queue of some bytes: they wait in it; it is in range if they are at most 16, and has 16 places then.
 pub waiting-queueOf : (l : List ℕ) → waiting (queueOf l) ≡ l

@@ -12,8 +12,8 @@ use Rattle.basics.specs.Lists.{allUpTo}
 use Rattle.basics.proofs.Flags.{right-of-both}
 use Rattle.basics.proofs.Limits.{up-to-at}
 use Rattle.queue.specs.declared.Queue.{Queue}
-use Rattle.queue.specs.Queues.{waiting, queueOf, tidy}
-use Rattle.queue.proofs.Meaning.{queue, tidy-is, tidy-short, length-waiting}
+use Rattle.queue.specs.Queues.{queueWith, waiting, queueOf, tidy}
+use Rattle.queue.proofs.Meaning.{tidy-is, tidy-short, length-waiting}
 
 -- The first i places have what stood one place behind them, the others what they had.
 unfoldable pub moved : List ℕ → ℕ → List ℕ
@@ -45,13 +45,13 @@ moved-all (x ∷ y ∷ b) zero e = absurd (omega arith)
 zero-more : (n : ℕ) → _≡_ {A = List ℕ} (replicate n 0 ++ 0 ∷ []) (replicate (n + 1) 0)
 zero-more n = replicate-append-replicate n 1 0
 
-without-oldest : (l : List ℕ) → 1 ≤ length l → length l ≤ 16 → queue (drop 1 (queueOf l .bytes) ++ 0 ∷ []) (length l - 1) ≡ queueOf (drop 1 l)
+without-oldest : (l : List ℕ) → 1 ≤ length l → length l ≤ 16 → queueWith (drop 1 (queueOf l .bytes) ++ 0 ∷ []) (length l - 1) ≡ queueOf (drop 1 l)
 unfolding queueOf
 without-oldest [] h k = absurd (omega arith)
 without-oldest (x ∷ l) h k =
     let zeros : 16 - suc (length l) + 1 ≡ 16 - length l = omega arith in
     let bytes : l ++ replicate (16 - suc (length l)) 0 ++ 0 ∷ [] ≡ l ++ replicate (16 - length l) 0 = rw (append-assoc, zero-more, zeros) in
-    ap₂ queue bytes (omega arith)
+    ap₂ queueWith bytes (omega arith)
 
 -- Behind the bytes that wait stand zeros.
 none-over : (b : List ℕ) (n i : ℕ) → allUpTo 0 (drop n b) ≡ true → n ≤ i → getD b i 0 ≤ 0
@@ -74,11 +74,11 @@ module _ (q : Queue) (t : tidy q ≡ true) (places : length (q .bytes) ≡ 16) w
       tidy-is q places t ∙ ap queueOf (none ∙ ap (λ (l : List ℕ). drop 1 l) (sym none))
 
   pub popped-by-moving : (b : List ℕ) (i : ℕ) → (q .length ≡ 0 → ⊥) → i ≤ 15 → 15 ≤ i → b ≡ moved (q .bytes) i
-      → queue (set b 15 0) (q .length - 1) ≡ queueOf (drop 1 (waiting q))
+      → queueWith (set b 15 0) (q .length - 1) ≡ queueOf (drop 1 (waiting q))
   unfolding queueOf
   popped-by-moving b i some low high e =
       let count : length (waiting q) ≡ q .length = length-waiting q t places in
       let all : b ≡ moved (q .bytes) 15 = e ∙ ap (λ (n : ℕ). moved (q .bytes) n) (le-antisymm low high) in
-      ap (λ (a : List ℕ). queue a (q .length - 1)) (ap (λ (a : List ℕ). set a 15 0) all ∙ moved-all (q .bytes) 15 places)
-      ∙ ap (λ (x : Queue). queue (drop 1 (x .bytes) ++ 0 ∷ []) (x .length - 1)) (tidy-is q places t)
+      ap (λ (a : List ℕ). queueWith a (q .length - 1)) (ap (λ (a : List ℕ). set a 15 0) all ∙ moved-all (q .bytes) 15 places)
+      ∙ ap (λ (x : Queue). queueWith (drop 1 (x .bytes) ++ 0 ∷ []) (x .length - 1)) (tidy-is q places t)
       ∙ without-oldest (waiting q) (omega arith) (omega (arith, tidy-short q t))

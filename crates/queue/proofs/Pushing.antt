@@ -11,8 +11,8 @@ use lib.ListN.{length, take, drop, set, getD, replicate, length-append}
 use lib.Seq.{paste, paste-suc, length-take-le, take-append-seam, drop-append-add}
 use Rattle.codes.specs.declared.Sequence.{Sequence}
 use Rattle.queue.specs.declared.Queue.{Queue}
-use Rattle.queue.specs.Queues.{waiting, queueOf, tidy, contents, hasRoom, lastReplaced, pushedTo}
-use Rattle.queue.proofs.Meaning.{queue, tidy-is, length-waiting, waiting-queueOf, count-contents}
+use Rattle.queue.specs.Queues.{queueWith, waiting, queueOf, tidy, contents, hasRoom, lastReplaced, pushedTo}
+use Rattle.queue.proofs.Meaning.{tidy-is, length-waiting, waiting-queueOf, count-contents}
 use Rattle.queue.proofs.Room.{length-lastReplaced, pushed-whole, pushed-nothing}
 
 drop-zeros : (n k : ℕ) → _≡_ {A = List ℕ} (drop k (replicate n 0)) (replicate (n - k) 0)
@@ -27,11 +27,11 @@ copy-more b a s at i e h k = rw (e, add-one) (paste-suc b at s i 0 h k)
 
 -- The bytes copied in behind those that wait.
 copied : (l s : List ℕ) (n : ℕ) → length l + n ≤ 16 → n ≤ length s
-    → queue (paste (queueOf l .bytes) (length l) s n) (length l + n) ≡ queueOf (l ++ take n s)
+    → queueWith (paste (queueOf l .bytes) (length l) s n) (length l + n) ≡ queueOf (l ++ take n s)
 unfolding queueOf
 copied l s n h k =
     let count : length (l ++ take n s) ≡ length l + n = length-append l (take n s) ∙ ap (λ (m : ℕ). length l + m) (length-take-le n s k) in
-    ap₂ queue (rw (take-append-seam, drop-append-add, drop-zeros, count, sub-add-eq)) (sym count)
+    ap₂ queueWith (rw (take-append-seam, drop-append-add, drop-zeros, count, sub-add-eq)) (sym count)
 
 -- The mark over the last of the bytes that wait, whatever stands behind them.
 set-last : (mark k : ℕ) (l rest : List ℕ) → length l ≡ suc k → set (l ++ rest) k mark ≡ lastReplaced mark l ++ rest
@@ -42,11 +42,11 @@ set-last mark k [] rest e = absurd (omega arith)
 set-last mark (suc k) (x ∷ []) rest e = absurd (omega arith)
 set-last mark zero (x ∷ y ∷ l) rest e = absurd (omega arith)
 
-marked : (mark : ℕ) (l : List ℕ) → 1 ≤ length l → queue (set (queueOf l .bytes) (length l - 1) mark) (length l) ≡ queueOf (lastReplaced mark l)
+marked : (mark : ℕ) (l : List ℕ) → 1 ≤ length l → queueWith (set (queueOf l .bytes) (length l - 1) mark) (length l) ≡ queueOf (lastReplaced mark l)
 unfolding queueOf
 marked mark l h =
     let count : length (lastReplaced mark l) ≡ length l = length-lastReplaced mark l in
-    ap₂ queue (rw count (set-last mark (length l - 1) l _ (omega arith))) (sym count)
+    ap₂ queueWith (rw count (set-last mark (length l - 1) l _ (omega arith))) (sym count)
 
 module _ (q : Queue) (t : tidy q ≡ true) (places : length (q .bytes) ≡ 16)
     (s : Sequence) (short : s .length ≤ 8) (places-s : length (s .bytes) ≡ 8) (mark : ℕ) where
@@ -59,32 +59,32 @@ module _ (q : Queue) (t : tidy q ≡ true) (places : length (q .bytes) ≡ 16)
   -- All bytes are copied, and there was room.
   pub pushed-by-copying : (b : List ℕ) (i : ℕ) → q .length + s .length ≤ 16 → i ≤ s .length → s .length ≤ i
       → b ≡ paste (q .bytes) (q .length) (s .bytes) i
-      → queue b (q .length + s .length) ≡ queueOf (pushedTo mark (waiting q) (contents s))
+      → queueWith b (q .length + s .length) ≡ queueOf (pushedTo mark (waiting q) (contents s))
   unfolding queueOf contents
   pushed-by-copying b i h low high e =
       let room : hasRoom (waiting q) (length (contents s)) ≡ true = rw (count, count-s) (le-leb _ _ h) in
-      ap (λ (a : List ℕ). queue a (q .length + s .length)) (e ∙ ap (λ (n : ℕ). paste (q .bytes) (q .length) (s .bytes) n) (le-antisymm low high))
-      ∙ ap (λ (x : Queue). queue (paste (x .bytes) (x .length) (s .bytes) (s .length)) (x .length + s .length)) (tidy-is q places t)
+      ap (λ (a : List ℕ). queueWith a (q .length + s .length)) (e ∙ ap (λ (n : ℕ). paste (q .bytes) (q .length) (s .bytes) n) (le-antisymm low high))
+      ∙ ap (λ (x : Queue). queueWith (paste (x .bytes) (x .length) (s .bytes) (s .length)) (x .length + s .length)) (tidy-is q places t)
       ∙ copied (waiting q) (s .bytes) (s .length) (omega (arith, count)) (omega arith)
       ∙ ap queueOf (sym (pushed-whole mark (waiting q) (contents s) room))
 
   -- There is no room, so a byte waits, and the mark is put over the last one.
   pub pushed-by-marking : 16 < q .length + s .length
-      → queue (set (q .bytes) (q .length - 1) mark) (q .length) ≡ queueOf (pushedTo mark (waiting q) (contents s))
+      → queueWith (set (q .bytes) (q .length - 1) mark) (q .length) ≡ queueOf (pushedTo mark (waiting q) (contents s))
   unfolding queueOf
   pushed-by-marking h =
       let full : hasRoom (waiting q) (length (contents s)) ≡ false = rw (count, count-s) (lt-leb _ _ h) in
-      ap (λ (x : Queue). queue (set (x .bytes) (x .length - 1) mark) (x .length)) (tidy-is q places t)
+      ap (λ (x : Queue). queueWith (set (x .bytes) (x .length - 1) mark) (x .length)) (tidy-is q places t)
       ∙ marked mark (waiting q) (omega (arith, count))
       ∙ ap queueOf (sym (pushed-nothing mark (waiting q) (contents s) full))
 
 -- The mark alone.
 pub marked-last : (q : Queue) → tidy q ≡ true → length (q .bytes) ≡ 16 → (mark : ℕ) → 1 ≤ q .length
-    → queue (set (q .bytes) (q .length - 1) mark) (q .length) ≡ queueOf (lastReplaced mark (waiting q))
+    → queueWith (set (q .bytes) (q .length - 1) mark) (q .length) ≡ queueOf (lastReplaced mark (waiting q))
 unfolding queueOf
 marked-last q t places mark h =
     let count : length (waiting q) ≡ q .length = length-waiting q t places in
-    ap (λ (x : Queue). queue (set (x .bytes) (x .length - 1) mark) (x .length)) (tidy-is q places t) ∙ marked mark (waiting q) (omega (arith, count))
+    ap (λ (x : Queue). queueWith (set (x .bytes) (x .length - 1) mark) (x .length)) (tidy-is q places t) ∙ marked mark (waiting q) (omega (arith, count))
 
 -- Pushed onto an empty queue, a sequence waits alone.
 pub pushed-alone : (q : Queue) (s : Sequence) (mark : ℕ) → q ≡ queueOf [] → s .length ≤ 8 → length (s .bytes) ≡ 8

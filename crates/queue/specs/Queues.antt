@@ -9,6 +9,10 @@ use Rattle.basics.specs.Lists.{allUpTo}
 use Rattle.codes.specs.declared.Sequence.{Sequence}
 use Rattle.queue.specs.declared.Queue.{Queue}
 
+-- The queue of these bytes, the first so many of which wait.
+abbrev pub queueWith : List ℕ → ℕ → Queue
+queueWith bytes count = record { bytes = bytes; length = count }
+
 -- What a queue means: the bytes that wait, oldest first.
 unfoldable pub waiting : Queue → List ℕ
 waiting q = take (q .length) (q .bytes)

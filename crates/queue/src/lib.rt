@@ -4,8 +4,8 @@ ghost use mathlib.Core.Path.{_≡_};
 ghost use mathlib.Core.Bool.{true};
 ghost use mathlib.Core.List.{[]};
 ghost use Prim.Native.Nat.{_≤_};
-ghost use lib.ListN.{drop};
-ghost use Rattle.queue.specs.Queues.{waiting, queueOf, tidy, contents, hasRoom, lastReplaced, pushedTo};
+ghost use lib.ListN.{length, drop};
+ghost use Rattle.queue.specs.Queues.{queueWith, waiting, queueOf, tidy, contents, hasRoom, pushedTo};
 
 pub mod replies; // replies.rt: the replies that wait
 
@@ -47,15 +47,22 @@ pub fn fits(q: Queue, s: Sequence) -> bool
     q.length + s.length <= 16
 }
 
-// The queue with its last byte replaced by the mark.
-pub fn marked(q: Queue, mark: u8) -> Queue
-    requires { ⌜ (tidy q ≡ true) × (1 ≤ q .length) ⌝ }
-    ensures { λ r. ⌜ r ≡ queueOf (lastReplaced mark (waiting q)) ⌝ }
+// A sequence goes behind the first `at` of these bytes, and so many wait then; or the last of them is replaced by the mark.
+pub fn push(bytes: &mut [u8; 16], at: usize, s: Sequence, mark: u8) -> usize
+    requires { ⌜ (tidy (queueWith (now bytes) at) ≡ true) × (length (now bytes) ≡ 16) × (s .length ≤ 8) ⌝ }
+    ensures { λ r. ⌜ queueWith (now (bytes .exit)) r ≡ queueOf (pushedTo mark (waiting (queueWith (now (bytes .entry)) at)) (contents s)) ⌝ }
 {
-    let at = q.length - 1;
-    let mut e = q;
-    e.bytes[at] = mark;
-    e
+    let n = s.length;
+    if 16 - at < n {
+        bytes[at - 1] = mark;
+        return at;
+    }
+    let mut i: usize = 0;
+    while i < n {
+        bytes[at + i] = s.bytes[i];
+        i += 1;
+    }
+    at + n
 }
 
 // The queue with a sequence behind its bytes, or with its last byte replaced by the mark.
@@ -63,20 +70,9 @@ pub fn pushed(q: Queue, s: Sequence, mark: u8) -> Queue
     requires { ⌜ (tidy q ≡ true) × (s .length ≤ 8) ⌝ }
     ensures { λ r. ⌜ r ≡ queueOf (pushedTo mark (waiting q) (contents s)) ⌝ }
 {
-    let at = q.length;
-    let n = s.length;
-    let mut e = q;
-    if 16 - at < n {
-        e.bytes[at - 1] = mark;
-        return e;
-    }
-    let mut i: usize = 0;
-    while i < n {
-        e.bytes[at + i] = s.bytes[i];
-        i += 1;
-    }
-    e.length = at + n;
-    e
+    let mut bytes = q.bytes;
+    let length = push(&mut bytes, q.length, s, mark);
+    Queue { bytes, length }
 }
 
 // The queue without its oldest byte.

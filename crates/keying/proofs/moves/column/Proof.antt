@@ -6,28 +6,30 @@ use mathlib.Core.Bool.{true}
 use native.Mathlib.Omega.{arith}
 use lib.Bits.{xor-lt}
 use lib.Count.{trailing-le}
+use lib.ListN.{length}
 use Rattle.basics.proofs.Limits.{up-to-at}
-use Rattle.record.specs.Apart.{keysWith}
+use Rattle.record.specs.declared.Keys.{Keys}
 use Rattle.record.specs.Range.{goodKeys}
-use Rattle.keying.specs.Moves.{rowsTo}
+use Rattle.keying.specs.Moves.{keysTold, rowsTo}
 use Rattle.keying.proofs.Good.{moved-good}
+use Rattle.keying.proofs.Places.{moved-bytes}
 use Rattle.keying.proofs.TurnedRows.{rowsIn, onRows, lowest-small, fewer, rows-are, row-moved, rows-done}
 use Rattle.keying.proofs.moves.column.Statement.{statement}
 use Rattle.keying.proofs.moves.column.Tie as tie
 
 abbrev Inv-loop : tie.InvT-loop
-Inv-loop held₀ m types map c was is e₀ turned₀ held e turned =
-    (turned < 256) × (goodKeys (keysWith held e) ≡ true)
-    × (rowsTo 8 m types map c was is (keysWith held₀ e₀) ≡ onRows (rowsIn turned) m types map c is (keysWith held e))
+Inv-loop held₀ bytes₀ table m types map c was is e₀ turned₀ held bytes e turned =
+    (turned < 256) × (goodKeys (keysTold held bytes e) ≡ true) × (length bytes ≡ 16)
+    × (rowsTo 8 m types map c was is (keysTold held₀ bytes₀ e₀) ≡ onRows (rowsIn turned) m types map c is (keysTold held bytes e))
 
 abbrev μ-loop : tie.MeasureT-loop
-μ-loop held₀ m types map c was is e₀ turned₀ held e turned = turned
+μ-loop held₀ bytes₀ table m types map c was is e₀ turned₀ held bytes e turned = turned
 
 loop-holds : tie.Need-loop-holds Inv-loop μ-loop
 loop-holds c =
     let a = c .args in
-    let all = rows-are (a .m) (a .types .now) (a .map .now) (a .c) (a .is) (a .was) (keysWith (a .held .now) (a .o)) in
-    (xor-lt 8 (a .was) (a .is) (omega arith) (omega arith), c .pre .0, all)
+    let all = rows-are (a .m) (a .types .now) (a .map .now) (a .c) (a .is) (a .was) (keysTold (a .held .now) (a .bytes .now) (a .t)) in
+    (xor-lt 8 (a .was) (a .is) (omega arith) (omega arith), c .pre .0, c .pre .2, all)
 
 cast-r : tie.Need-cast-r Inv-loop μ-loop
 cast-r c = omega (arith, trailing-le 8 (c .before .loop .turned))
@@ -36,48 +38,50 @@ mul-contact-turned : tie.Need-mul-contact-turned Inv-loop μ-loop
 mul-contact-turned c = omega arith
 
 add-contact-turned : tie.Need-add-contact-turned Inv-loop μ-loop
-add-contact-turned c = omega (arith, trailing-le 8 (c .before .before .loop .turned))
+add-contact-turned c = omega (arith, trailing-le 8 (c .before .before .before .loop .turned))
 
 element-copy-out-contact-turned : tie.Need-element-copy-out-contact-turned Inv-loop μ-loop
 element-copy-out-contact-turned c =
-    let l = c .before .before .loop in
+    let l = c .before .before .before .loop in
     omega (arith, lowest-small (l .turned) (omega arith) (l .inv .0))
 
 cast-contact-turned : tie.Need-cast-contact-turned Inv-loop μ-loop
-cast-contact-turned c = omega (arith, trailing-le 8 (c .before .before .before .loop .turned))
+cast-contact-turned c = omega (arith, trailing-le 8 (c .before .before .before .before .loop .turned))
 
 shr-contact-turned : tie.Need-shr-contact-turned Inv-loop μ-loop
 shr-contact-turned c =
-    let l = c .before .before .before .loop in
+    let l = c .before .before .before .before .loop in
     lowest-small (l .turned) (omega arith) (l .inv .0)
 
 contact-turned-requires : tie.Need-contact-turned-requires Inv-loop μ-loop
 contact-turned-requires c κs =
-    let l = c .before .before .before in
+    let l = c .before .before .before .before in
     let p = l .before .pre in
-    (l .loop .inv .1, p .1, up-to-at 104 _ _ (p .3))
+    (l .loop .inv .1, p .1, l .loop .inv .2, up-to-at 104 _ _ (p .4), p .5)
 
 sub-turned : tie.Need-sub-turned Inv-loop μ-loop
 sub-turned c = omega arith
 
 loop-less : tie.Need-loop-less Inv-loop μ-loop
-loop-less c = fewer (c .before .before .before .before .loop .turned) (omega arith)
+loop-less c = fewer (c .before .before .before .before .before .loop .turned) (omega arith)
 
 loop-again : tie.Need-loop-again Inv-loop μ-loop
 loop-again c =
-    let l = c .before .before .before .before in
+    let l = c .before .before .before .before .before in
     let a = l .before .args in
     let p = l .before .pre in
     let t = l .loop .turned in
     let i = l .loop .inv in
-    let e = keysWith (l .loop .held) (l .loop .e) in
-    let good = ap goodKeys (c .contact-turned .ensures) ∙ moved-good (a .m) (p .1) (a .types .now) _ _ (up-to-at 104 _ _ (p .3)) e (i .1) in
-    (omega (arith, fewer t (omega arith)), good, row-moved _ _ _ _ _ _ e t (i .2) (omega arith) (i .0) _ (c .contact-turned .ensures))
+    let e = keysTold (l .loop .held) (l .loop .bytes) (l .loop .e) in
+    let after = c .contact-turned .ensures in
+    let good = ap goodKeys after ∙ moved-good (a .m) (p .1) (a .types .now) _ _ (up-to-at 104 _ _ (p .4)) e (i .1) in
+    let places = ap (λ (k : Keys). length (k .queue .bytes)) after ∙ moved-bytes (a .m) (a .types .now) _ _ (up-to-at 104 _ _ (p .4)) e (i .2) in
+    (omega (arith, fewer t (omega arith)), good, places, row-moved _ _ _ _ _ _ e t (i .3) (omega arith) (i .0) _ after)
 
 returns : tie.Need-returns Inv-loop μ-loop
 returns c =
     let l = c .before .loop in
-    rows-done _ _ _ _ _ _ (keysWith (l .held) (l .e)) (l .turned) (l .inv .2) (omega arith)
+    rows-done _ _ _ _ _ _ (keysTold (l .held) (l .bytes) (l .e)) (l .turned) (l .inv .3) (omega arith)
 
 pub column-spec : {M : Type 1} → statement M
 column-spec =

@@ -18,7 +18,7 @@ press-requires c κs = search needs
 returns-2 : tie.Need-returns-2
 unfolding moved
 returns-2 c =
-    let t = c .before .before in
+    let t = c .before .before .before in
     simp (ne-eqb _ _ (t .before .before .if1 .left), eq-eqb _ _ (t .if2 .taken)) (c .press .ensures)
 
 release-requires : tie.Need-release-requires
@@ -27,7 +27,7 @@ release-requires c κs = search needs
 returns-3 : tie.Need-returns-3
 unfolding moved
 returns-3 c =
-    let t = c .before .before in
+    let t = c .before .before .before in
     simp (ne-eqb _ _ (t .before .before .if1 .left), ne-eqb _ _ (t .if2 .left)) (c .release .ensures)
 
 pub contact-turned-spec : {M : Type 1} → statement M

@@ -1,17 +1,31 @@
 -- `keying::moves::press` meets its contract: the key is the one that repeats, if it may, else none does. Assumes nothing.
+use Prim.Native.Nat.{_≤_}
+use native.Mathlib.Omega.{arith}
 use borrow.Author.Needs.{needs}
-use Rattle.record.specs.Apart.{keysWith}
+use Rattle.queue.specs.Queues.{queueWith}
 use Rattle.keying.specs.Sending.{sends}
-use Rattle.keying.proofs.Good.{parts, rate-small}
+use Rattle.keying.specs.Moves.{keysTold}
+use Rattle.keying.proofs.Good.{parts, rate-small, queued-short}
 use Rattle.keying.proofs.Changes.{pressed-repeats, pressed-once}
 use Rattle.keying.proofs.moves.press.Statement.{statement}
 use Rattle.keying.proofs.moves.press.Tie as tie
 
-queued-press-requires : tie.Need-queued-press-requires
-queued-press-requires c κs =
-    let s = c .before .before in
+cast-send-press : tie.Need-cast-send-press
+cast-send-press c = search needs
+
+send-press-requires : tie.Need-send-press-requires
+send-press-requires c κs =
+    let s = c .before .before .before in
     let a = s .args in
-    parts (keysWith (a .held .now) (a .o)) (s .pre .0) .queue
+    (parts (keysTold (a .held .now) (a .bytes .now) (a .t)) (s .pre .0) .queue, s .pre .2, s .pre .4)
+
+cast-e : tie.Need-cast-e
+cast-e c =
+    let s = c .before .before .before .before in
+    let a = s .args in
+    let k = keysTold (a .held .now) (a .bytes .now) (a .t) in
+    let few : c .send-press .result ≤ 16 = queued-short (queueWith _ (c .send-press .result)) (k .queue) _ _ (c .send-press .ensures) (parts k (s .pre .0) .queue) in
+    omega arith
 
 element-write-held : tie.Need-element-write-held
 element-write-held c = search needs
@@ -20,28 +34,31 @@ may-repeat-requires : tie.Need-may-repeat-requires
 may-repeat-requires c κs = search needs
 
 delay-of-requires : tie.Need-delay-of-requires
-delay-of-requires c κs = rate-small _ (c .before .before .before .before .before .pre .1)
+delay-of-requires c κs = rate-small _ (c .before .before .before .before .before .before .pre .1)
 
 returns : tie.Need-returns
 unfolding sends
 returns c =
     let m = c .before .before in
-    let a = m .before .before .before .before .args in
-    pressed-repeats (keysWith (a .held .now) (a .o)) (a .m) (a .kind) (a .key) _ (m .before .queued-press .ensures) _ (m .may-repeat .ensures)
+    let a = m .before .before .before .before .before .args in
+    pressed-repeats (keysTold (a .held .now) (a .bytes .now) (a .t)) (a .m) (a .kind) (a .key) _ (m .before .send-press .ensures) _ (m .may-repeat .ensures)
     (c .before .if1 .taken) _ (c .delay-of .ensures)
 
 returns-2 : tie.Need-returns-2
 unfolding sends
 returns-2 c =
     let m = c .before in
-    let a = m .before .before .before .before .args in
-    pressed-once (keysWith (a .held .now) (a .o)) (a .m) (a .kind) (a .key) _ (m .before .queued-press .ensures) _ (m .may-repeat .ensures) (c .if1 .left)
+    let a = m .before .before .before .before .before .args in
+    pressed-once (keysTold (a .held .now) (a .bytes .now) (a .t)) (a .m) (a .kind) (a .key) _ (m .before .send-press .ensures) _ (m .may-repeat .ensures)
+    (c .if1 .left)
 
 pub press-spec : {M : Type 1} → statement M
 press-spec =
     tie.close
     (tie.spec
-    queued-press-requires
+    cast-send-press
+    send-press-requires
+    cast-e
     element-write-held
     may-repeat-requires
     delay-of-requires
