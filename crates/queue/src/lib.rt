@@ -47,32 +47,40 @@ pub fn fits(q: Queue, s: Sequence) -> bool
     q.length + s.length <= 16
 }
 
-// A sequence goes behind the first `at` of these bytes, and so many wait then; or the last of them is replaced by the mark.
-pub fn push(bytes: &mut [u8; 16], at: usize, s: Sequence, mark: u8) -> usize
-    requires { ⌜ (tidy (queueWith (now bytes) at) ≡ true) × (length (now bytes) ≡ 16) × (s .length ≤ 8) ⌝ }
-    ensures { λ r. ⌜ queueWith (now (bytes .exit)) r ≡ queueOf (pushedTo mark (waiting (queueWith (now (bytes .entry)) at)) (contents s)) ⌝ }
-{
-    let n = s.length;
-    if 16 - at < n {
-        bytes[at - 1] = mark;
-        return at;
-    }
-    let mut i: usize = 0;
-    while i < n {
-        bytes[at + i] = s.bytes[i];
-        i += 1;
-    }
-    at + n
-}
-
 // The queue with a sequence behind its bytes, or with its last byte replaced by the mark.
 pub fn pushed(q: Queue, s: Sequence, mark: u8) -> Queue
     requires { ⌜ (tidy q ≡ true) × (s .length ≤ 8) ⌝ }
     ensures { λ r. ⌜ r ≡ queueOf (pushedTo mark (waiting q) (contents s)) ⌝ }
 {
-    let mut bytes = q.bytes;
-    let length = push(&mut bytes, q.length, s, mark);
-    Queue { bytes, length }
+    let at = q.length;
+    let n = s.length;
+    let mut e = q;
+    if 16 - at < n {
+        e.bytes[at - 1] = mark;
+        return e;
+    }
+    let mut i: usize = 0;
+    while i < n {
+        e.bytes[at + i] = s.bytes[i];
+        i += 1;
+    }
+    e.length = at + n;
+    e
+}
+
+// The same in place: of these bytes the first `at` wait, and then as many as the answer says.
+pub fn push(bytes: &mut [u8; 16], at: usize, s: Sequence, mark: u8) -> usize
+    requires { ⌜ (tidy (queueWith (now bytes) at) ≡ true) × (s .length ≤ 8) ⌝ }
+    ensures { λ r. ⌜ queueWith (now (bytes .exit)) r ≡ queueOf (pushedTo mark (waiting (queueWith (now (bytes .entry)) at)) (contents s)) ⌝ }
+{
+    let q = Queue {
+        bytes: *bytes,
+        length: at,
+    };
+    let e = pushed(q, s, mark);
+    let after = e.bytes;
+    *bytes = after;
+    e.length
 }
 
 // The queue without its oldest byte.

@@ -1,0 +1,94 @@
+-- `queue::pushed` meets its contract. The loop's invariant: i is at most n, and the first i bytes of the sequence stand behind those that waited.
+-- The measure is what is left of the n bytes. Assumes nothing.
+use mathlib.Core.Path.{_≡_}
+use Prim.Native.Nat.{_-_, _≤_}
+use native.Mathlib.Omega.{arith}
+use borrow.Author.Needs.{needs}
+use lib.ListN.{length}
+use lib.Seq.{paste, paste-zero}
+use Rattle.queue.proofs.Meaning.{tidy-short}
+use Rattle.queue.proofs.Pushing.{copy-more, pushed-by-copying, pushed-by-marking}
+use Rattle.queue.proofs.pushed.Statement.{statement}
+use Rattle.queue.proofs.pushed.Tie as tie
+
+abbrev Inv-loop : tie.InvT-loop
+Inv-loop mark s at n e₀ i₀ e i = (i ≤ n) × (e .bytes ≡ paste (e₀ .bytes) at (s .bytes) i)
+
+abbrev μ-loop : tie.MeasureT-loop
+μ-loop mark s at n e₀ i₀ e i = n - i
+
+sub-if1 : tie.Need-sub-if1 Inv-loop μ-loop
+sub-if1 c = omega (arith, tidy-short _ (c .pre .0))
+
+sub-e : tie.Need-sub-e Inv-loop μ-loop
+sub-e c = omega arith
+
+element-write-e : tie.Need-element-write-e Inv-loop μ-loop
+element-write-e c = omega (arith, tidy-short _ (c .before .pre .0))
+
+returns : tie.Need-returns Inv-loop μ-loop
+returns c =
+    let a = c .before .args in
+    let places : length (a .q .bytes) ≡ 16 = search needs in
+    let places-s : length (a .t2 .bytes) ≡ 8 = search needs in
+    pushed-by-marking (a .q) (c .before .pre .0) places (a .t2) (c .before .pre .1) places-s (a .mark) (omega arith)
+
+loop-holds : tie.Need-loop-holds Inv-loop μ-loop
+loop-holds c = (omega arith, paste-zero (c .before .args .q .bytes) (c .before .args .q .length) (c .before .args .t2 .bytes))
+
+element-copy-out-e : tie.Need-element-copy-out-e Inv-loop μ-loop
+element-copy-out-e c = omega arith
+
+add-e : tie.Need-add-e Inv-loop μ-loop
+add-e c = omega arith
+
+element-write-e-2 : tie.Need-element-write-e-2 Inv-loop μ-loop
+element-write-e-2 c = omega (arith, tidy-short _ (c .before .before .before .before .pre .0))
+
+add-i : tie.Need-add-i Inv-loop μ-loop
+add-i c = omega arith
+
+loop-less : tie.Need-loop-less Inv-loop μ-loop
+loop-less c = omega arith
+
+loop-again : tie.Need-loop-again Inv-loop μ-loop
+loop-again c =
+    let a = c .before .before .before .before .args in
+    let l = c .before .before .loop in
+    let short = tidy-short (a .q) (c .before .before .before .before .pre .0) in
+    let places : length (a .q .bytes) ≡ 16 = search needs in
+    let places-s : length (a .t2 .bytes) ≡ 8 = search needs in
+    (omega arith, copy-more (a .q .bytes) (l .e .bytes) (a .t2 .bytes) (a .q .length) (l .i) (l .inv .1) (omega arith) (omega arith))
+
+add-e-2 : tie.Need-add-e-2 Inv-loop μ-loop
+add-e-2 c = omega (arith, tidy-short _ (c .before .before .before .pre .0))
+
+returns-2 : tie.Need-returns-2 Inv-loop μ-loop
+returns-2 c =
+    let s = c .before .before .before in
+    let a = s .args in
+    let l = c .before .loop in
+    let short = tidy-short (a .q) (s .pre .0) in
+    let places : length (a .q .bytes) ≡ 16 = search needs in
+    let places-s : length (a .t2 .bytes) ≡ 8 = search needs in
+    pushed-by-copying (a .q) (s .pre .0) places (a .t2) (s .pre .1) places-s (a .mark) (l .e .bytes) (l .i) (omega arith) (omega arith) (omega arith) (l .inv .1)
+
+pub pushed-spec : {M : Type 1} → statement M
+pushed-spec =
+    tie.close
+    (tie.spec
+    Inv-loop
+    μ-loop
+    sub-if1
+    sub-e
+    element-write-e
+    returns
+    loop-holds
+    element-copy-out-e
+    add-e
+    element-write-e-2
+    add-i
+    loop-less
+    loop-again
+    add-e-2
+    returns-2)
