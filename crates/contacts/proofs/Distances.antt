@@ -72,23 +72,23 @@ no-pair d l = refl
 pub all-pairs : (d : ℕ) (l : List ℕ) (j n : ℕ) (any : Bool) → any ≡ sharesAt j d l → j ≤ n → n ≤ j → any ≡ sharesAt n d l
 all-pairs d l j n any i a b = i ∙ ap (λ (k : ℕ). sharesAt k d l) (le-antisymm a b)
 
--- Two columns less than n apart share.
+-- The last two columns share, or one of sixteen with a column less than n behind it.
 unfoldable pub sharesWithin : ℕ → List ℕ → Bool
-sharesWithin zero l = false
-sharesWithin (suc zero) l = false
-sharesWithin (suc (suc n)) l = either (sharesWithin (suc n) l) (sharesAt 18 (suc n) l)
+sharesWithin zero l = shares (getD l 16 0) (getD l 17 0)
+sharesWithin (suc zero) l = shares (getD l 16 0) (getD l 17 0)
+sharesWithin (suc (suc n)) l = either (sharesWithin (suc n) l) (sharesAt 16 (suc n) l)
 
-pub no-distance : (l : List ℕ) → false ≡ sharesWithin 1 l
+pub last-two : (l : List ℕ) (b : Bool) → b ≡ shares (getD l 16 0) (getD l 17 0) → b ≡ sharesWithin 1 l
 unfolding sharesWithin
-no-distance l = refl
+last-two l b e = e
 
-within-next : (d : ℕ) (l : List ℕ) → 1 ≤ d → sharesWithin (d + 1) l ≡ either (sharesWithin d l) (sharesAt 18 d l)
+within-next : (d : ℕ) (l : List ℕ) → 1 ≤ d → sharesWithin (d + 1) l ≡ either (sharesWithin d l) (sharesAt 16 d l)
 unfolding sharesWithin
 within-next zero l h = absurd (omega arith)
 within-next (suc d) l h = rw add-one
 
 -- One more distance.
-module _ (l : List ℕ) (d : ℕ) (h : 1 ≤ d) (any : Bool) (i : any ≡ sharesWithin d l) (b : Bool) (e : b ≡ sharesAt 18 d l) (r : Bool) where
+module _ (l : List ℕ) (d : ℕ) (h : 1 ≤ d) (any : Bool) (i : any ≡ sharesWithin d l) (b : Bool) (e : b ≡ sharesAt 16 d l) (r : Bool) where
   next-distance : r ≡ either any b → r ≡ sharesWithin (d + 1) l
   next-distance f = rw (within-next d l h, ← i, ← e) f
 

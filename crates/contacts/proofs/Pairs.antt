@@ -4,7 +4,7 @@ use mathlib.Core.Bool.{Bool, true, false}
 use mathlib.Core.List.{List, [], _∷_}
 use Prim.Native.Nat.{ℕ, zero, suc, _+_, _<_, _≤_}
 use native.Mathlib.Nat.{le-antisymm, zero-add, suc-add}
-use native.Mathlib.Decide.{ℕ-discrete}
+use native.Mathlib.Decide.{ℕ-discrete, decLt}
 use native.Mathlib.Omega.{arith}
 use lib.Bits.{and-zero-r}
 use lib.Count.{ones, onesIn}
@@ -44,20 +44,29 @@ module _ (d : ℕ) (l : List ℕ) where
       go (no q) below = below (omega arith)
 
 module _ (l : List ℕ) where
-  within-none : (n : ℕ) → ((d : ℕ) → 0 < d → sharesAt 18 d l ≡ false) → sharesWithin n l ≡ false
-  unfolding sharesWithin
-  within-none zero f = refl
-  within-none (suc zero) f = refl
-  within-none (suc (suc n)) f = neither _ _ (within-none (suc n) f) (f (suc n) (omega arith))
+  abbrev lastApart : Type 0
+  lastApart = shares (getD l 16 0) (getD l 17 0) ≡ false
 
-  within-each : (n : ℕ) → sharesWithin n l ≡ false → (d : ℕ) → 0 < d → d < n → sharesAt 18 d l ≡ false
+  within-none : (n : ℕ) → lastApart → ((d : ℕ) → 0 < d → sharesAt 16 d l ≡ false) → sharesWithin n l ≡ false
+  unfolding sharesWithin
+  within-none zero e f = e
+  within-none (suc zero) e f = e
+  within-none (suc (suc n)) e f = neither _ _ (within-none (suc n) e f) (f (suc n) (omega arith))
+
+  within-last : (n : ℕ) → sharesWithin n l ≡ false → lastApart
+  unfolding sharesWithin
+  within-last zero e = e
+  within-last (suc zero) e = e
+  within-last (suc (suc n)) e = within-last (suc n) (left-not (sharesWithin (suc n) l) (sharesAt 16 (suc n) l) e)
+
+  within-each : (n : ℕ) → sharesWithin n l ≡ false → (d : ℕ) → 0 < d → d < n → sharesAt 16 d l ≡ false
   unfolding sharesWithin
   within-each zero e d p h = absurd (omega arith)
   within-each (suc zero) e d p h = absurd (omega arith)
-  within-each (suc (suc n)) e d p h = go (ℕ-discrete d (suc n)) (within-each (suc n) (left-not (sharesWithin (suc n) l) (sharesAt 18 (suc n) l) e) d p)
+  within-each (suc (suc n)) e d p h = go (ℕ-discrete d (suc n)) (within-each (suc n) (left-not (sharesWithin (suc n) l) (sharesAt 16 (suc n) l) e) d p)
     where
-      go : Dec (d ≡ suc n) → (d < suc n → sharesAt 18 d l ≡ false) → sharesAt 18 d l ≡ false
-      go (yes q) nearer = rw q (right-not (sharesWithin (suc n) l) (sharesAt 18 (suc n) l) e)
+      go : Dec (d ≡ suc n) → (d < suc n → sharesAt 16 d l ≡ false) → sharesAt 16 d l ≡ false
+      go (yes q) nearer = rw q (right-not (sharesWithin (suc n) l) (sharesAt 16 (suc n) l) e)
       go (no q) nearer = nearer (omega arith)
 
 -- An open column shares with none.
@@ -100,7 +109,8 @@ phantom-each (x ∷ xs) e j zero p = absurd (omega arith)
 phantom-each (x ∷ xs) e zero (suc d) p = rw zero-add (any-each x xs (left-not (sharesAny x xs) (isPhantom xs) e) d)
 phantom-each (x ∷ xs) e (suc j) (suc d) p = rw suc-add (phantom-each xs (right-not (sharesAny x xs) (isPhantom xs) e) j (suc d) p)
 
--- So a scan of 18 columns is phantom where two columns at a distance below 18 share.
+-- So a scan of 18 columns is phantom where the last two share, or one of sixteen with a column less than 18 behind it: a later
+-- column than those sixteen has another behind it only if it is the last but one.
 module _ (s l : List ℕ) (n : length s ≡ 18) (f : (k : ℕ) → getD l k 0 ≡ getD s k 0) where
   pub by-distances : sharesWithin 18 l ≡ isPhantom s
   by-distances = alike (sharesWithin 18 l) (isPhantom s) found sought
@@ -112,11 +122,19 @@ module _ (s l : List ℕ) (n : length s ≡ 18) (f : (k : ℕ) → getD l k 0 �
       alike false false p q = refl
 
       found : sharesWithin 18 l ≡ false → isPhantom s ≡ false
-      found e =
-          phantom-none s (λ j d p h. rw (← f j, ← f (j + d)) (at-each d l 18 (within-each l 18 e d p (omega arith)) j (omega arith)))
+      found e = phantom-none s (λ j d p h. rw (← f j, ← f (j + d)) (pair j d p (omega (arith, n)) (decLt j 16)))
+        where
+          pair : (j d : ℕ) → 0 < d → j + d < 18 → Dec (j < 16) → shares (getD l j 0) (getD l (j + d) 0) ≡ false
+          pair j d p h (yes b) = at-each d l 16 (within-each l 18 e d p (omega arith)) j b
+          pair j d p h (no b) =
+              let last : j ≡ 16 = omega arith in
+              let one : d ≡ 1 = omega arith in
+              rw (last, one) (within-last l 18 e)
 
       sought : isPhantom s ≡ false → sharesWithin 18 l ≡ false
-      sought e = within-none l 18 (λ d p. at-none d l 18 (λ j h. rw (f j, f (j + d)) (phantom-each s e j d p)))
+      sought e =
+          within-none l 18 (rw (f 16, f 17) (phantom-each s e 16 1 (omega arith)))
+          (λ d p. at-none d l 16 (λ j h. rw (f j, f (j + d)) (phantom-each s e j d p)))
 
   pub all-distances : (d : ℕ) (any : Bool) → any ≡ sharesWithin d l → d ≤ 18 → 18 ≤ d → any ≡ isPhantom s
   all-distances d any i a b = i ∙ ap (λ (k : ℕ). sharesWithin k l) (le-antisymm a b) ∙ by-distances

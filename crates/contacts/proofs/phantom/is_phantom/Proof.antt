@@ -1,5 +1,6 @@
 -- `contacts::phantom::is_phantom` meets its contract. A scan without a column that has two closed rows is not phantom. The loop's
--- invariant: the flag says whether two columns less than d apart share. The measure is what is left of the 18. Assumes nothing.
+-- invariant: the flag says whether the last two columns share, or one of sixteen with a column less than d behind it. The measure
+-- is what is left of the 18. Assumes nothing.
 use Prim.Native.Nat.{_-_, _≤_}
 use mathlib.Core.Path.{_≡_}
 use mathlib.Core.Logic.{⊎-elim}
@@ -7,7 +8,7 @@ use native.Mathlib.Omega.{arith}
 use borrow.Author.Needs.{needs}
 use borrow.Author.Tests.{not-true}
 use Rattle.contacts.proofs.Rectangles.{few-phantom}
-use Rattle.contacts.proofs.Distances.{sharesWithin, no-distance, distance-shares, distance-apart}
+use Rattle.contacts.proofs.Distances.{sharesWithin, last-two, distance-shares, distance-apart}
 use Rattle.contacts.proofs.Pairs.{all-distances}
 use Rattle.contacts.proofs.phantom.is_phantom.Statement.{statement}
 use Rattle.contacts.proofs.phantom.is_phantom.Tie as tie
@@ -27,8 +28,17 @@ returns c = few-phantom _ _ (c .before .any-two-closed .ensures) (not-true _ (c 
 padded-requires : tie.Need-padded-requires Inv-loop μ-loop
 padded-requires c κs = search needs
 
+array-read-two-closed : tie.Need-array-read-two-closed Inv-loop μ-loop
+array-read-two-closed c = search needs
+
+array-read-two-closed-2 : tie.Need-array-read-two-closed-2 Inv-loop μ-loop
+array-read-two-closed-2 c = search needs
+
+two-closed-requires : tie.Need-two-closed-requires Inv-loop μ-loop
+two-closed-requires c κs = search needs
+
 loop-holds : tie.Need-loop-holds Inv-loop μ-loop
-loop-holds c = (omega arith, omega arith, no-distance _)
+loop-holds c = (omega arith, omega arith, last-two _ _ (c .two-closed .ensures))
 
 shares-at-requires : tie.Need-shares-at-requires Inv-loop μ-loop
 shares-at-requires c κs = search needs
@@ -54,8 +64,8 @@ loop-again c =
 returns-2 : tie.Need-returns-2 Inv-loop μ-loop
 returns-2 c =
     let l = c .before in
-    let start = l .before .before .before .before .before in
-    all-distances (start .args .scan .now) _ (start .pre) (l .before .padded .ensures) (l .loop .d) (l .loop .found) (l .loop .inv .2) (l .loop .inv .1)
+    let start = l .before .before .before .before .before .before in
+    all-distances (start .args .scan .now) _ (start .pre) (l .before .before .padded .ensures) (l .loop .d) (l .loop .found) (l .loop .inv .2) (l .loop .inv .1)
     (c .loop-test .left)
 
 pub is-phantom-spec : {M : Type 1} → statement M
@@ -67,6 +77,9 @@ is-phantom-spec =
     any-two-closed-requires
     returns
     padded-requires
+    array-read-two-closed
+    array-read-two-closed-2
+    two-closed-requires
     loop-holds
     shares-at-requires
     add-d

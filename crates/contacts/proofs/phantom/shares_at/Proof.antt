@@ -1,5 +1,5 @@
 -- `contacts::phantom::shares_at` meets its contract. The loop's invariant: the flag says whether one of the first j columns shares
--- with the one at the distance behind it. The measure is what is left of the 18. Assumes nothing.
+-- with the one at the distance behind it. The measure is what is left of the 16. Assumes nothing.
 use Prim.Native.Nat.{_-_, _≤_}
 use mathlib.Core.Path.{_≡_}
 use mathlib.Core.Logic.{⊎-elim}
@@ -11,10 +11,10 @@ use Rattle.contacts.proofs.phantom.shares_at.Statement.{statement}
 use Rattle.contacts.proofs.phantom.shares_at.Tie as tie
 
 abbrev Inv-loop : tie.InvT-loop
-Inv-loop columns distance shared₀ j₀ shared j = (j ≤ 18) × (shared ≡ sharesAt j distance columns)
+Inv-loop columns distance shared₀ j₀ shared j = (j ≤ 16) × (shared ≡ sharesAt j distance columns)
 
 abbrev μ-loop : tie.MeasureT-loop
-μ-loop columns distance shared₀ j₀ shared j = 18 - j
+μ-loop columns distance shared₀ j₀ shared j = 16 - j
 
 loop-holds : tie.Need-loop-holds Inv-loop μ-loop
 loop-holds c = (omega arith, no-pair _ _)
@@ -50,7 +50,7 @@ loop-again c =
     )
 
 returns : tie.Need-returns Inv-loop μ-loop
-returns c = all-pairs _ _ _ 18 _ (c .before .loop .inv .1) (c .before .loop .inv .0) (c .loop-test .left)
+returns c = all-pairs _ _ _ 16 _ (c .before .loop .inv .1) (c .before .loop .inv .0) (c .loop-test .left)
 
 pub shares-at-spec : {M : Type 1} → statement M
 shares-at-spec =
