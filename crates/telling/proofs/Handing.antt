@@ -16,14 +16,14 @@ use Rattle.codes.specs.declared.Action.the-variants.{Release}
 use Rattle.queue.specs.Queues.{waiting}
 use Rattle.queue.proofs.Room.{no-room-waits}
 use Rattle.keying.specs.declared.Handed.{Handed}
-use Rattle.keying.specs.Sending.{sends}
+use Rattle.keying.specs.Sending.{flagOf, sends}
 use Rattle.keying.specs.Moves.{releasedWith, released}
 use Rattle.keying.specs.Handover.{isHeld, canLeave, handedFrom}
 use Rattle.keying.proofs.Sent.{sends-short}
 use Rattle.keying.proofs.Kept.{picked, handed-keeps}
 use Rattle.record.specs.declared.Mode.{Mode}
 use Rattle.record.specs.declared.Keys.{Keys}
-use Rattle.telling.specs.Agreeing.{Outside, Lowest, counted, heldTo, heldCount}
+use Rattle.telling.specs.Agreeing.{Outside, Lowest, heldTo, heldCount}
 use Rattle.basics.proofs.Cases.{by-cases, neither-first, neither-second}
 
 -- A flag that is taken down is down, also where there is no place for one,
@@ -49,7 +49,7 @@ not-held-down k key h = eqb-true _ _ (not-false (eqb (getD (k .held) key 0) 0) h
 
 -- Where flags went down or stayed, no more keys are held,
 module _ (before after : List ℕ) (lower : (j : ℕ) → (getD after j 0 ≡ 0) ⊎ (getD after j 0 ≡ getD before j 0)) where
-  flag-lower : (j : ℕ) → counted (getD after j 0) ≤ counted (getD before j 0)
+  flag-lower : (j : ℕ) → flagOf (getD after j 0) ≤ flagOf (getD before j 0)
   flag-lower j = ⊎-elim (λ e. rw e (omega arith)) (λ e. rw e (omega arith)) (lower j)
 
   pub no-more-held : (n : ℕ) → heldTo n after ≤ heldTo n before
@@ -65,8 +65,8 @@ module _ (before after : List ℕ) (lower : (j : ℕ) → (getD after j 0 ≡ 0)
     where
       go : Dec (j ≡ suc n) → (j ≤ n → heldTo n after < heldTo n before) → heldTo (suc n) after < heldTo (suc n) before
       go (yes e) later =
-          let was : counted (getD before (suc n) 0) ≡ 1 = rw (← e, ne-eqb _ _ up) in
-          let is : counted (getD after (suc n) 0) ≡ 0 = rw (← e, down) in
+          let was : flagOf (getD before (suc n) 0) ≡ 1 = rw (← e, ne-eqb _ _ up) in
+          let is : flagOf (getD after (suc n) 0) ≡ 0 = rw (← e, down) in
           omega (arith, no-more-held n)
       go (no e) later = omega (arith, later (omega arith), flag-lower (suc n))
 

@@ -10,14 +10,14 @@ use Rattle.basics.specs.Choice.{pick, either}
 use Rattle.codes.specs.declared.Action.the-variants.{Release}
 use Rattle.queue.specs.Queues.{waiting}
 use Rattle.keying.specs.declared.Handed.{Handed}
-use Rattle.keying.specs.Sending.{sends}
+use Rattle.keying.specs.Sending.{flagOf, sends}
 use Rattle.keying.specs.Moves.{releasedWith, released}
 use Rattle.keying.specs.Handover.{isHeld, canLeave, handedFrom}
 use Rattle.keying.proofs.Sent.{sends-short}
 use Rattle.keying.proofs.Kept.{picked}
 use Rattle.record.specs.declared.Mode.{Mode}
 use Rattle.record.specs.declared.Keys.{Keys}
-use Rattle.telling.specs.Agreeing.{counted, heldTo, heldCount}
+use Rattle.telling.specs.Agreeing.{heldTo, heldCount}
 use Rattle.basics.proofs.Cases.{by-cases}
 use Rattle.telling.proofs.Handing.{down-own, down-any, held-up, fewer-held}
 use Rattle.telling.proofs.Whole.{released-whole}
@@ -31,7 +31,7 @@ pub held-most : (n : ℕ) (held : List ℕ) → heldTo n held ≤ n
 unfolding heldTo
 held-most zero held = omega arith
 held-most (suc n) held =
-    let one : counted (getD held (suc n) 0) ≤ 1 =
+    let one : flagOf (getD held (suc n) 0) ≤ 1 =
     picked (λ (c : ℕ). c ≤ 1) (eqb (getD held (suc n) 0) 0) 0 1 (omega arith) (omega arith) in
     omega (arith, held-most n held)
 

@@ -3,10 +3,9 @@ use Prim.Native.Nat.{ℕ, zero, suc, _+_, _≤_, _<_}
 use mathlib.Core.Path.{_≡_}
 use mathlib.Core.Logic.{_⊎_}
 use mathlib.Core.List.{List}
-use lib.Dec.{eqb}
 use lib.ListN.{getD}
-use Rattle.basics.specs.Choice.{pick}
 use Rattle.contacts.specs.Scans.{contact}
+use Rattle.keying.specs.Sending.{flagOf}
 use Rattle.record.specs.declared.Keys.{Keys}
 
 -- The held keys are those whose contacts count as closed; a key that stands nowhere on the map is not held.
@@ -35,14 +34,10 @@ pub record Lowest (held : List ℕ) (first bound : ℕ) : Type 0 where
   pub up : getD held key 0 ≡ 0 → ⊥
   pub none : (j : ℕ) → first ≤ j → j < key → getD held j 0 ≡ 0
 
--- A flag that is up counts 1.
-abbrev pub counted : ℕ → ℕ
-counted flag = pick (eqb flag 0) 0 1
-
 -- How many of the keys 1 to n are held,
 unfoldable pub heldTo : ℕ → List ℕ → ℕ
 heldTo zero held = 0
-heldTo (suc n) held = heldTo n held + counted (getD held (suc n) 0)
+heldTo (suc n) held = heldTo n held + flagOf (getD held (suc n) 0)
 
 -- and of all keys.
 abbrev pub heldCount : List ℕ → ℕ
