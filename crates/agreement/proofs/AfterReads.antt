@@ -7,12 +7,12 @@ use Prim.Native.Nat.{ℕ, zero, suc, _≤_}
 use lib.Dec.{eqb}
 use lib.ListN.{replicate}
 use Rattle.basics.specs.Choice.{both, either}
+use Rattle.basics.proofs.Cases.{picked}
 use Rattle.dock.specs.declared.Taken.{Taken}
 use Rattle.dock.specs.Closing.{closing}
 use Rattle.dock.specs.Scan.{quiet}
 use Rattle.dock.specs.Read.{remembering, replyTaken, keyByteTaken, read, readOf}
 use Rattle.history.specs.Scans.{saysHeld}
-use Rattle.keying.proofs.Kept.{picked}
 use Rattle.record.specs.declared.Dock.{Dock}
 use Rattle.record.specs.Range.{inRange}
 use Rattle.runs.specs.Calls.{Call, Read, isClearingCall}

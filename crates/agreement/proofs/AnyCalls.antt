@@ -9,7 +9,7 @@ use Rattle.basics.specs.Choice.{either}
 use Rattle.basics.specs.Lists.{allUpTo}
 use Rattle.basics.proofs.Flags.{left-of-both, right-of-both}
 use Rattle.dock.proofs.InRange.{scan-in-range, read-in-range, swap-in-range, frame-in-range}
-use Rattle.history.specs.Scans.{unseen, countedAll}
+use Rattle.history.specs.Scans.{countedAll}
 use Rattle.maps.specs.Maps.{isIn, hasDouble}
 use Rattle.queue.specs.Queues.{queueOf}
 use Rattle.record.specs.Power.{countUp, plainMap, freshWith, powerOn}
@@ -19,7 +19,8 @@ use Rattle.runs.specs.Calls.{Call, Scan, Swap, Frame, Read, isClearingCall}
 use Rattle.runs.specs.Worlds.{World, woken, next, afterCalls}
 use Rattle.runs.specs.Runs.{overrunsIn, undisturbed}
 use Rattle.basics.proofs.Cases.{neither-first}
-use Rattle.telling.proofs.Held.{none-agree, zeros-at, contact-open}
+use Rattle.telling.proofs.Held.{none-agree, contact-open}
+use Rattle.basics.proofs.Zeros.{zeros-at}
 use Rattle.agreement.proofs.Ready.{Settled, shut-settled, never}
 use Rattle.agreement.proofs.Following.{Follows}
 use Rattle.agreement.proofs.Scanned.{scan-settled, scan-follows}
@@ -34,7 +35,7 @@ pub record Sound (w : World) : Type 0 where
 
 -- At power-on.
 pub woken-sound : Sound woken
-unfolding woken powerOn freshWith plainMap countUp allUpTo isIn hasDouble queueOf countedAll unseen
+unfolding woken powerOn freshWith plainMap countUp allUpTo isIn hasDouble queueOf countedAll
 woken-sound =
     record {
       range = power-on-in-range;

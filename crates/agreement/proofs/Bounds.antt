@@ -7,6 +7,7 @@ use native.Mathlib.Omega.{arith}
 use lib.Dec.{eqb, leb}
 use lib.ListN.{length, take, drop, length-take, length-drop}
 use Rattle.basics.specs.Lists.{allUpTo}
+use Rattle.basics.proofs.Cases.{picked}
 use Rattle.contacts.specs.Phantom.{isPhantom}
 use Rattle.dock.specs.declared.Answered.{Answered}
 use Rattle.dock.specs.declared.Taken.{Taken}
@@ -20,7 +21,6 @@ use Rattle.frames.specs.declared.Unpacked.the-variants.{Byte, Broken, TooLarge}
 use Rattle.frames.specs.Frames.{unpackedOf}
 use Rattle.host.specs.Commands.{replyTo, commanded, rightValue, given, tookByte}
 use Rattle.host.proofs.InRange.{reply-short}
-use Rattle.keying.proofs.Kept.{picked}
 use Rattle.maps.specs.Maps.{hasDouble}
 use Rattle.queue.specs.declared.replies.Replies.{Replies}
 use Rattle.queue.specs.Queues.{waiting}

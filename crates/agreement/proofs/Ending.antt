@@ -8,14 +8,13 @@ use native.Mathlib.Omega.{arith}
 use borrow.Author.Tests.{eqb-true, eqb-false, eq-eqb}
 use lib.Dec.{eqb}
 use lib.ListN.{length, replicate, drop, length-drop}
-use Rattle.basics.proofs.Cases.{by-cases}
+use Rattle.basics.proofs.Cases.{by-cases, picked}
 use Rattle.basics.proofs.Flags.{left-of-both, right-of-both}
 use Rattle.dock.specs.declared.Taken.{Taken}
 use Rattle.dock.specs.Closing.{withHanded, closing}
 use Rattle.dock.specs.Scan.{quiet}
 use Rattle.dock.specs.Read.{oldest, behindIt, oldestReply, repliesBehind, remembering, replyTaken, keyByteTaken, read, readOf}
 use Rattle.keying.specs.Handover.{handedOver}
-use Rattle.keying.proofs.Kept.{picked}
 use Rattle.queue.specs.Queues.{waiting}
 use Rattle.queue.specs.Replies.{waitingReplies}
 use Rattle.queue.proofs.Meaning.{waiting-queueOf}

@@ -7,9 +7,9 @@ use Prim.Native.Nat.{ℕ, _≤_}
 use native.Mathlib.Omega.{arith}
 use borrow.Author.Tests.{leb-true, leb-false}
 use lib.Dec.{leb}
+use Rattle.basics.proofs.Cases.{picked}
 use Rattle.dock.specs.Closing.{withHanded, closing}
 use Rattle.keying.specs.Handover.{handedOver}
-use Rattle.keying.proofs.Kept.{picked}
 use Rattle.queue.specs.declared.Queue.{Queue}
 use Rattle.queue.specs.Queues.{waiting}
 use Rattle.record.specs.declared.Keys.{Keys}

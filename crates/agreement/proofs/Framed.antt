@@ -14,10 +14,9 @@ use Rattle.dock.specs.Frame.{tookFrame, frameOf}
 use Rattle.frames.specs.declared.Unpacked.{Unpacked}
 use Rattle.frames.specs.declared.Unpacked.the-variants.{Byte, Broken, TooLarge}
 use Rattle.frames.specs.Frames.{unpackedOf}
-use Rattle.history.specs.Scans.{unseen, countedAll}
+use Rattle.history.specs.Scans.{countedAll}
 use Rattle.host.specs.Commands.{replying, cleared, unrepeated, readied, enabled, defaulted, disabled, typed, restarted}
 use Rattle.host.specs.Commands.{obeyed, commanded, rightValue, valued, given, tookByte}
-use Rattle.keying.proofs.Kept.{picked}
 use Rattle.queue.proofs.Meaning.{places-queueOf}
 use Rattle.record.specs.declared.Dock.{Dock}
 use Rattle.record.specs.Parts.{withWaiting}
@@ -25,8 +24,9 @@ use Rattle.record.specs.Power.{freshWith}
 use Rattle.record.specs.Range.{takesValue, inRange}
 use Rattle.runs.specs.Calls.{isAccepted, clears, carries, isClearing}
 use Rattle.runs.specs.Worlds.{isReset, scansAfterFrame}
-use Rattle.telling.proofs.Held.{none-agree, zeros-at, contact-open}
-use Rattle.basics.proofs.Cases.{by-cases, neither-first, neither-second}
+use Rattle.telling.proofs.Held.{none-agree, contact-open}
+use Rattle.basics.proofs.Zeros.{zeros-at}
+use Rattle.basics.proofs.Cases.{by-cases, picked, neither-first, neither-second}
 use Rattle.terminal.specs.Terminals.{Terminal}
 use Rattle.agreement.proofs.Following.{Follows, closing-follows}
 use Rattle.agreement.proofs.Ready.{IsReady, Settled, never, same-flags, closing-settled}
@@ -43,7 +43,7 @@ module _ (scans : List (List ℕ)) where
 
 -- The dock after a reset.
 fresh-ready : (d : Dock) (scans : List (List ℕ)) → IsReady d scans → IsReady (restarted d) []
-unfolding freshWith countedAll unseen
+unfolding freshWith countedAll
 fresh-ready d scans r =
     record {
       long = r .long;

@@ -11,7 +11,6 @@ use Rattle.dock.specs.declared.Taken.{Taken}
 use Rattle.dock.specs.Answers.{taken}
 use Rattle.dock.specs.Closing.{closing}
 use Rattle.dock.specs.Read.{oldest, behindIt, oldestReply, repliesBehind, remembering, replyTaken, keyByteTaken, read, readOf}
-use Rattle.keying.proofs.Kept.{picked}
 use Rattle.queue.specs.Queues.{waiting}
 use Rattle.queue.specs.Replies.{waitingReplies}
 use Rattle.queue.proofs.ReplyMeaning.{waiting-repliesOf}
@@ -20,7 +19,7 @@ use Rattle.record.specs.Parts.{withKeys, withReplies, withQueue}
 use Rattle.runs.specs.Calls.{Call, Read}
 use Rattle.runs.specs.Worlds.{World, woken, next, afterCalls}
 use Rattle.runs.specs.Bytes.{foremost}
-use Rattle.basics.proofs.Cases.{by-cases}
+use Rattle.basics.proofs.Cases.{by-cases, picked}
 use Rattle.agreement.proofs.Bounds.{Steady, closing-replies, keys-counted, replies-counted, reached-steady}
 
 pub read-gives : (w : World) → Steady w

@@ -25,7 +25,6 @@ use Rattle.frames.specs.declared.Unpacked.{Unpacked}
 use Rattle.frames.specs.declared.Unpacked.the-variants.{Byte, Broken, TooLarge}
 use Rattle.frames.specs.Frames.{unpackedOf}
 use Rattle.host.specs.Commands.{replying, commanded, rightValue, valued, given, tookByte}
-use Rattle.keying.proofs.Kept.{picked}
 use Rattle.maps.specs.Maps.{hasDouble}
 use Rattle.queue.specs.Queues.{waiting}
 use Rattle.queue.proofs.Meaning.{waiting-queueOf}
@@ -37,7 +36,7 @@ use Rattle.runs.specs.Calls.{Call, Scan, Swap, Frame, Read, isAccepted, clears,
 use Rattle.runs.specs.Worlds.{World, woken, next, afterCalls}
 use Rattle.runs.specs.Runs.{overrunsIn, undisturbed}
 use Rattle.runs.specs.Bytes.{closingBytes, frameBytes, readBytes, queuedBy, keyBytesOf, givenBy, queuedIn, givenIn}
-use Rattle.basics.proofs.Cases.{by-cases, neither-first}
+use Rattle.basics.proofs.Cases.{by-cases, picked, neither-first}
 use Rattle.agreement.proofs.Framed.{mild, obeyed-mild}
 use Rattle.agreement.proofs.Taken.{some-wait}
 use Rattle.agreement.proofs.AnyCalls.{Sound, woken-sound, any-sound}

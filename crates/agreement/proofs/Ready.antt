@@ -8,8 +8,9 @@ use lib.ListN.{length}
 use Rattle.basics.specs.Lists.{allUpTo}
 use Rattle.contacts.specs.declared.Contacts.{Contacts}
 use Rattle.contacts.specs.Scans.{contact}
+use Rattle.contacts.specs.Counts.{unseen}
 use Rattle.dock.specs.Closing.{withHanded, closing}
-use Rattle.history.specs.Scans.{unseen, countedAll}
+use Rattle.history.specs.Scans.{countedAll}
 use Rattle.history.proofs.Held.{one-place}
 use Rattle.keying.specs.Handover.{handedOver}
 use Rattle.keying.proofs.Places.{Places, handed-places}
@@ -70,7 +71,7 @@ at-once map long single p q hp hq same some = one-place map single p q (omega ar
 -- Contacts of which no scan says anything are open.
 pub all-open : (contacts : Contacts) (scans : List (List ℕ)) → contacts ≡ countedAll unseen scans → scans ≡ []
     → (position : ℕ) → position < 144 → contact (contacts .closed) position ≡ 0
-unfolding countedAll unseen
+unfolding countedAll
 all-open contacts scans seen none position h =
     ap (λ (k : Contacts). contact (k .closed) position) (seen ∙ ap (countedAll unseen) none) ∙ contact-open 18 position
 

@@ -9,7 +9,7 @@ use lib.Dec.{eqb, ltb}
 use lib.ListN.{length}
 use Rattle.basics.specs.Choice.{pick}
 use Rattle.basics.specs.Lists.{allUpTo}
-use Rattle.basics.proofs.Cases.{two-by-cases}
+use Rattle.basics.proofs.Cases.{picked, two-by-cases}
 use Rattle.dock.specs.declared.Answered.{Answered}
 use Rattle.dock.specs.declared.Given.the-variants.{Refused}
 use Rattle.dock.specs.declared.Taken.{Taken}
@@ -21,7 +21,6 @@ use Rattle.dock.specs.Read.{replyTaken, keyByteTaken, read, readOf}
 use Rattle.frames.specs.declared.Unpacked.{Unpacked}
 use Rattle.frames.specs.declared.Unpacked.the-variants.{Byte, Broken, TooLarge}
 use Rattle.frames.specs.Frames.{whole, unpackedOf}
-use Rattle.keying.proofs.Kept.{picked}
 use Rattle.maps.specs.Maps.{hasDouble}
 use Rattle.record.specs.declared.Dock.{Dock}
 use Rattle.record.specs.Range.{inRange}

@@ -10,12 +10,11 @@ use Rattle.basics.specs.Choice.{pick, both}
 use Rattle.basics.proofs.Flags.{right-of-both}
 use Rattle.contacts.specs.declared.Contacts.{Contacts}
 use Rattle.contacts.specs.Phantom.{isPhantom}
-use Rattle.contacts.specs.Counts.{countedOf}
+use Rattle.contacts.specs.Counts.{unseen, countedOf}
 use Rattle.dock.specs.Answers.{answered}
 use Rattle.dock.specs.declared.Answer.the-variants.{Accepted, ScanLength}
 use Rattle.dock.specs.Closing.{closing}
 use Rattle.dock.specs.Scan.{listening, isCounted, counting, changed, quiet, repeating, heardScan, scanned, scanOf}
-use Rattle.history.specs.Scans.{unseen}
 use Rattle.history.proofs.Counters.{counted-again}
 use Rattle.keying.specs.Moves.{turnsTo}
 use Rattle.keying.specs.Repeat.{ticked, repeated}

@@ -9,19 +9,19 @@ use lib.Dec.{eqb}
 use lib.ListN.{length}
 use Rattle.basics.specs.Choice.{pick}
 use Rattle.basics.specs.Lists.{allUpTo}
+use Rattle.contacts.specs.Counts.{unseen}
 use Rattle.dock.specs.declared.Answered.{Answered}
 use Rattle.dock.specs.declared.Answer.the-variants.{Accepted, MapLength, MapEntry, MapDouble}
 use Rattle.dock.specs.Answers.{answered}
 use Rattle.dock.specs.Swap.{opened, remapped, swapped, swapOf}
-use Rattle.history.specs.Scans.{unseen, countedAll}
+use Rattle.history.specs.Scans.{countedAll}
 use Rattle.maps.specs.Maps.{hasDouble}
 use Rattle.record.specs.declared.Dock.{Dock}
 use Rattle.record.specs.Parts.{withMap}
 use Rattle.record.specs.Range.{inRange}
 use Rattle.runs.specs.Calls.{isAccepted}
 use Rattle.runs.specs.Worlds.{scansAfterSwap}
-use Rattle.basics.proofs.Cases.{by-cases}
-use Rattle.keying.proofs.Kept.{picked}
+use Rattle.basics.proofs.Cases.{by-cases, picked}
 use Rattle.terminal.specs.Terminals.{Terminal}
 use Rattle.agreement.proofs.Following.{Follows, closing-follows}
 use Rattle.agreement.proofs.Ready.{IsReady, Settled, never, closing-settled}
@@ -30,7 +30,7 @@ module _ (d : Dock) (scans : List (List ℕ)) (s : Settled d scans) (map : List 
   -- The map is replaced, and if no handover is open, one is opened and the contact history dropped.
   module _ (long : length map ≡ 144) (entries : allUpTo 104 map ≡ true) (single : hasDouble map ≡ false) where
     remapped-ready : IsReady (remapped d map) []
-    unfolding remapped opened countedAll unseen
+    unfolding remapped opened countedAll
     remapped-ready =
         let r = s .ready in
         by-cases (λ (e : Dock). IsReady e []) (d .handover) (withMap d map) (opened d map)

@@ -12,7 +12,6 @@ use Rattle.dock.specs.declared.Given.the-variants.{Nothing}
 use Rattle.dock.specs.Answers.{taken}
 use Rattle.dock.specs.Closing.{closing}
 use Rattle.dock.specs.Read.{oldest, behindIt, oldestReply, repliesBehind, remembering, replyTaken, keyByteTaken, read, readOf}
-use Rattle.keying.proofs.Kept.{picked}
 use Rattle.queue.specs.declared.Queue.{Queue}
 use Rattle.queue.specs.Queues.{waiting}
 use Rattle.queue.proofs.Meaning.{places-queueOf}
@@ -20,7 +19,7 @@ use Rattle.record.specs.declared.Dock.{Dock}
 use Rattle.record.specs.Parts.{withKeys, withReplies, withQueue}
 use Rattle.record.specs.Range.{inRange}
 use Rattle.runs.specs.Worlds.{takes}
-use Rattle.basics.proofs.Cases.{by-cases}
+use Rattle.basics.proofs.Cases.{by-cases, picked}
 use Rattle.telling.proofs.Told.{byte-told}
 use Rattle.terminal.specs.Terminals.{Terminal, hears}
 use Rattle.agreement.proofs.Following.{Follows, closing-follows}

@@ -5,16 +5,17 @@
 use mathlib.Core.Path.{_≡_, refl, sym, ap, _∙_}
 use mathlib.Core.Logic.{_⊎_, inl, inr}
 use mathlib.Core.Bool.{Bool, true, false, not}
-use mathlib.Core.List.{List, [], _∷_}
+use mathlib.Core.List.{List}
 use Prim.Native.Nat.{ℕ, zero, suc, _≤_, _<_}
 use native.Mathlib.Omega.{arith}
 use borrow.Author.Tests.{eqb-true, leb-true}
 use lib.Dec.{eqb, leb}
-use lib.ListN.{length, getD, set, replicate}
+use lib.ListN.{getD, set, replicate}
 use lib.Seq.{getD-set-other}
 use Rattle.basics.specs.Choice.{both, between}
 use Rattle.basics.specs.Lists.{allUpTo}
 use Rattle.basics.proofs.Flags.{left-of-both, right-of-both}
+use Rattle.basics.proofs.Zeros.{only-zeros}
 use Rattle.contacts.specs.declared.Contacts.{Contacts}
 use Rattle.contacts.specs.Scans.{contact}
 use Rattle.contacts.proofs.Pointwise.{contact-small}
@@ -35,14 +36,6 @@ use Rattle.agreement.proofs.Following.{Follows}
 use Rattle.agreement.proofs.AnyCalls.{Sound, woken-sound, any-sound, any-follows}
 use Rattle.agreement.proofs.Ending.{quiet-empty, quiet-shut}
 
--- Flags of which none is over 0 are zeros.
-zeros : (l : List ℕ) → allUpTo 0 l ≡ true → l ≡ replicate (length l) 0
-unfolding allUpTo
-zeros [] e = refl
-zeros (x ∷ xs) e =
-    let first : x ≡ 0 = omega (arith, leb-true x 0 (left-of-both (leb x 0) (allUpTo 0 xs) e)) in
-    rw first (ap (λ (r : List ℕ). 0 ∷ r) (zeros xs (right-of-both (leb x 0) (allUpTo 0 xs) e)))
-
 one-or-two : (n : ℕ) → between 1 2 n ≡ true → (n ≡ 1) ⊎ (n ≡ 2)
 one-or-two zero e = never false e refl
 one-or-two (suc zero) e = inl refl
@@ -60,7 +53,7 @@ begin-follows w s e =
     let behind = right-of-both (quiet d) (both none rest) e in
     let last = right-of-both none rest behind in
     let idle = eqb-true (d .waiting) 0 (left-of-both (eqb (d .waiting) 0) (between 1 2 (d .mode .set)) last) in
-    let flags = zeros (d .keys .held) (left-of-both none rest behind) ∙ ap (λ (n : ℕ). replicate n 0) (s .settled .ready .places .flags) in
+    let flags = only-zeros (d .keys .held) (left-of-both none rest behind) ∙ ap (λ (n : ℕ). replicate n 0) (s .settled .ready .places .flags) in
     record {
       chosen = one-or-two (d .mode .set) (right-of-both (eqb (d .waiting) 0) (between 1 2 (d .mode .set)) last);
       firm = λ f. omega arith;

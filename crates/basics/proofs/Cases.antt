@@ -7,11 +7,24 @@ pub by-cases : {A : Type 0} (P : A → Type 0) (b : Bool) (x y : A) → (b ≡ t
 by-cases P true x y f g = f refl
 by-cases P false x y f g = g refl
 
--- The same of two things that one test picks.
+-- What holds of both holds of the one that is picked.
+pub picked : {A : Type 0} (P : A → Type 0) (b : Bool) (x y : A) → P x → P y → P (pick b x y)
+picked P b x y p q = by-cases P b x y (λ e. p) (λ e. q)
+
+-- By cases, of two things that one test picks.
 pub two-by-cases : {A B : Type 0} (P : A → B → Type 0) (b : Bool) (x y : A) (v w : B)
     → (b ≡ true → P x v) → (b ≡ false → P y w) → P (pick b x y) (pick b v w)
 two-by-cases P true x y v w f g = f refl
 two-by-cases P false x y v w f g = g refl
+
+-- Of two, where the second holds one does, and where it does not, only the first can.
+pub either-true : (b : Bool) → either b true ≡ true
+either-true true = refl
+either-true false = refl
+
+pub either-false : (b : Bool) → either b false ≡ b
+either-false true = refl
+either-false false = refl
 
 -- Where neither of two holds, each does not.
 pub neither-first : (a b : Bool) → either a b ≡ false → a ≡ false

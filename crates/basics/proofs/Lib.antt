@@ -2,5 +2,6 @@ pub mod Tables
 pub mod Maps
 pub mod Flags
 pub mod Limits
+pub mod Zeros
 pub mod Once
 pub mod Cases

@@ -1,13 +1,13 @@
 -- No action sends more than 8 bytes, and no part of one more than its share. Assumes nothing.
-use mathlib.Core.Path.{_≡_, refl}
-use mathlib.Core.Bool.{Bool, true, false}
+use mathlib.Core.Path.{_≡_}
+use mathlib.Core.Bool.{Bool}
 use mathlib.Core.Logic.{_⊎_, ⊎-elim}
 use mathlib.Core.List.{List, [], _∷_, _++_}
 use Prim.Native.Nat.{ℕ, _+_, _/_, _%_, _≤_}
 use native.Mathlib.Omega.{arith}
 use lib.Dec.{eqb}
 use lib.ListN.{length, length-append}
-use Rattle.basics.specs.Choice.{pick}
+use Rattle.basics.proofs.Cases.{by-cases, picked}
 use Rattle.keys.specs.Keys.{rows, rowOf, codeIn, leftWrap, rightWrap}
 use Rattle.codes.specs.declared.Action.{Action}
 use Rattle.codes.specs.declared.Action.the-variants.{Press, Release, Repeat}
@@ -16,14 +16,12 @@ use Rattle.codes.specs.declared.Form.the-variants.{Plain, ShiftLeft, Shi
 use Rattle.codes.specs.Codes.{prefix, makeOf, breakOf, before, after, isOther, pausesAtOnce, pauseBytes, sendsRelease, mayRepeat, codeOf, bytesOf, formOf, encode}
 use Rattle.codes.proofs.AtOnce.{at-once-set}
 
--- Whichever list is picked is short, if each is where it is picked.
-pick-short : (n : ℕ) (b : Bool) (x y : List ℕ) → (b ≡ true → length x ≤ n) → length y ≤ n → length (pick b x y) ≤ n
-pick-short n true x y f h = f refl
-pick-short n false x y f h = h
+abbrev Short : ℕ → List ℕ → Type 0
+Short n l = length l ≤ n
 
 pub prefix-short : (code : ℕ) → length (prefix code) ≤ 1
 unfolding prefix
-prefix-short code = pick-short 1 (eqb (code / 256) 0) [] ((code / 256) ∷ []) (λ e. omega arith) (omega arith)
+prefix-short code = picked (Short 1) (eqb (code / 256) 0) [] ((code / 256) ∷ []) (omega arith) (omega arith)
 
 pub make-short : (code : ℕ) → length (makeOf code) ≤ 2
 unfolding makeOf
@@ -32,7 +30,7 @@ make-short code = rw length-append (omega (arith, prefix-short code))
 pub break-short : (set code : ℕ) → length (breakOf set code) ≤ 3
 unfolding breakOf
 break-short set code =
-    let rest = pick-short 2 (eqb set 1) ((code % 128 + 128) ∷ []) (0xf0 ∷ (code % 256) ∷ []) (λ e. omega arith) (omega arith) in
+    let rest = picked (Short 2) (eqb set 1) ((code % 128 + 128) ∷ []) (0xf0 ∷ (code % 256) ∷ []) (omega arith) (omega arith) in
     rw length-append (omega (arith, prefix-short code, rest))
 
 pub before-short : (set : ℕ) (form : Form) → length (before set form) ≤ 6
@@ -58,8 +56,8 @@ pause-short : (set : ℕ) (form : Form) → (set ≡ 1) ⊎ (set ≡ 2) → leng
 unfolding pauseBytes makeOf breakOf prefix codeIn rowOf rows
 pause-short set form =
     ⊎-elim
-    (λ e. rw e (pick-short 8 (isOther form) _ _ (λ o. omega arith) (omega arith)))
-    (λ e. rw e (pick-short 8 (isOther form) _ _ (λ o. omega arith) (omega arith)))
+    (λ e. rw e (picked (Short 8) (isOther form) _ _ (omega arith) (omega arith)))
+    (λ e. rw e (picked (Short 8) (isOther form) _ _ (omega arith) (omega arith)))
 
 -- A make behind any wrapping.
 pub make-behind-short : (set code : ℕ) (wrapping : Form) → length (before set wrapping ++ makeOf code) ≤ 8
@@ -71,13 +69,13 @@ release-short set code form = rw length-append (omega (arith, break-short set co
 pub bytes-short : (set key : ℕ) (action : Action) (type : ℕ) (form : Form) → length (bytesOf set key action type form) ≤ 8
 unfolding bytesOf
 bytes-short set key Press type form =
-    pick-short 8 (pausesAtOnce set key) _ _ (λ e. pause-short set form (at-once-set set key e))
-    (make-behind-short set (codeOf set key form) form)
+    by-cases (Short 8) (pausesAtOnce set key) _ _ (λ e. pause-short set form (at-once-set set key e))
+    (λ e. make-behind-short set (codeOf set key form) form)
 bytes-short set key Release type form =
-    pick-short 8 (pausesAtOnce set key) _ _ (λ e. omega arith)
-    (pick-short 8 (sendsRelease set type) _ _ (λ e. release-short set (codeOf set key form) form) (omega arith))
+    picked (Short 8) (pausesAtOnce set key) _ _ (omega arith)
+    (picked (Short 8) (sendsRelease set type) _ _ (release-short set (codeOf set key form) form) (omega arith))
 bytes-short set key Repeat type form =
-    pick-short 8 (mayRepeat set key type) _ _ (λ e. omega (arith, make-short (codeOf set key form))) (omega arith)
+    picked (Short 8) (mayRepeat set key type) _ _ (omega (arith, make-short (codeOf set key form))) (omega arith)
 
 -- No action of any key sends more than 8 bytes.
 pub encode-short : (set key : ℕ) (action : Action) (type mods : ℕ) (lock : Bool) → length (encode set key action type mods lock) ≤ 8

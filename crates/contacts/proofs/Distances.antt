@@ -8,17 +8,13 @@ use native.Mathlib.Nat.{le-antisymm}
 use native.Mathlib.Numerals.{add-one}
 use native.Mathlib.Decide.{ℕ-discrete, decLt}
 use native.Mathlib.Omega.{arith}
-use lib.ListN.{length, getD, set, replicate, List·getD-eq-default}
+use lib.ListN.{length, getD, set, List·getD-eq-default}
 use lib.Seq.{getD-set-same, getD-set-other}
 use Rattle.basics.specs.Choice.{either}
+use Rattle.basics.proofs.Cases.{either-true, either-false}
 use Rattle.contacts.specs.Phantom.{shares, sharesAt}
 
 -- The columns with open ones behind them: l holds the first i columns of s so far.
-pub open-columns : (n k : ℕ) → getD (replicate {A = ℕ} n 0) k 0 ≡ 0
-open-columns zero k = refl
-open-columns (suc n) zero = refl
-open-columns (suc n) (suc k) = open-columns n k
-
 module _ (s l : List ℕ) (i : ℕ) where
   pub front-more : i < length l → ((k : ℕ) → k < i → getD l k 0 ≡ getD s k 0) → (k : ℕ) → k < i + 1 → getD (set l i (getD s i 0)) k 0 ≡ getD s k 0
   front-more h f k b = go (ℕ-discrete k i)
@@ -40,18 +36,10 @@ module _ (s l : List ℕ) (i : ℕ) where
 -- A flag that a test raises.
 module _ (flag test r : Bool) where
   raised : test ≡ true → r ≡ true → r ≡ either flag test
-  raised t e = rw (e, t) (always flag)
-    where
-      always : (a : Bool) → true ≡ either a true
-      always true = refl
-      always false = refl
+  raised t e = rw (e, t) (sym (either-true flag))
 
   left : test ≡ false → r ≡ flag → r ≡ either flag test
-  left t e = rw (e, t) (only flag)
-    where
-      only : (a : Bool) → a ≡ either a false
-      only true = refl
-      only false = refl
+  left t e = rw (e, t) (sym (either-false flag))
 
 -- One more pair of a distance.
 module _ (d : ℕ) (l : List ℕ) (j : ℕ) (any : Bool) (i : any ≡ sharesAt j d l) (b : Bool) (e : b ≡ shares (getD l j 0) (getD l (j + d) 0)) (r : Bool) where

@@ -10,18 +10,11 @@ use lib.Bits.{and-zero-r}
 use lib.Count.{ones, onesIn}
 use lib.ListN.{length, getD}
 use Rattle.basics.specs.Choice.{either}
+use Rattle.basics.proofs.Cases.{neither-first, neither-second}
 use Rattle.contacts.specs.Phantom.{shares, sharesAny, isPhantom, sharesAt}
 use Rattle.contacts.proofs.Distances.{sharesWithin}
 
 -- Where no pair shares, no search finds one, and where a search finds none, no pair shares.
-left-not : (a b : Bool) → either a b ≡ false → a ≡ false
-left-not true b e = e
-left-not false b e = refl
-
-right-not : (a b : Bool) → either a b ≡ false → b ≡ false
-right-not true b e = cc
-right-not false b e = e
-
 neither : (a b : Bool) → a ≡ false → b ≡ false → either a b ≡ false
 neither a b e f = rw (e, f)
 
@@ -37,10 +30,10 @@ module _ (d : ℕ) (l : List ℕ) where
   at-each : (n : ℕ) → sharesAt n d l ≡ false → (j : ℕ) → j < n → apart j
   unfolding sharesAt
   at-each zero e j h = absurd (omega arith)
-  at-each (suc n) e j h = go (ℕ-discrete j n) (at-each n (left-not (sharesAt n d l) (shares (getD l n 0) (getD l (n + d) 0)) e) j)
+  at-each (suc n) e j h = go (ℕ-discrete j n) (at-each n (neither-first (sharesAt n d l) (shares (getD l n 0) (getD l (n + d) 0)) e) j)
     where
       go : Dec (j ≡ n) → (j < n → apart j) → apart j
-      go (yes q) below = rw q (right-not (sharesAt n d l) (shares (getD l n 0) (getD l (n + d) 0)) e)
+      go (yes q) below = rw q (neither-second (sharesAt n d l) (shares (getD l n 0) (getD l (n + d) 0)) e)
       go (no q) below = below (omega arith)
 
 module _ (l : List ℕ) where
@@ -57,16 +50,16 @@ module _ (l : List ℕ) where
   unfolding sharesWithin
   within-last zero e = e
   within-last (suc zero) e = e
-  within-last (suc (suc n)) e = within-last (suc n) (left-not (sharesWithin (suc n) l) (sharesAt 16 (suc n) l) e)
+  within-last (suc (suc n)) e = within-last (suc n) (neither-first (sharesWithin (suc n) l) (sharesAt 16 (suc n) l) e)
 
   within-each : (n : ℕ) → sharesWithin n l ≡ false → (d : ℕ) → 0 < d → d < n → sharesAt 16 d l ≡ false
   unfolding sharesWithin
   within-each zero e d p h = absurd (omega arith)
   within-each (suc zero) e d p h = absurd (omega arith)
-  within-each (suc (suc n)) e d p h = go (ℕ-discrete d (suc n)) (within-each (suc n) (left-not (sharesWithin (suc n) l) (sharesAt 16 (suc n) l) e) d p)
+  within-each (suc (suc n)) e d p h = go (ℕ-discrete d (suc n)) (within-each (suc n) (neither-first (sharesWithin (suc n) l) (sharesAt 16 (suc n) l) e) d p)
     where
       go : Dec (d ≡ suc n) → (d < suc n → sharesAt 16 d l ≡ false) → sharesAt 16 d l ≡ false
-      go (yes q) nearer = rw q (right-not (sharesWithin (suc n) l) (sharesAt 16 (suc n) l) e)
+      go (yes q) nearer = rw q (neither-second (sharesWithin (suc n) l) (sharesAt 16 (suc n) l) e)
       go (no q) nearer = nearer (omega arith)
 
 -- An open column shares with none.
@@ -86,8 +79,8 @@ any-none x (y ∷ ys) f = neither _ _ (f 0 (omega arith)) (any-none x ys (λ k h
 any-each : (x : ℕ) (l : List ℕ) → sharesAny x l ≡ false → (k : ℕ) → shares x (getD l k 0) ≡ false
 unfolding sharesAny
 any-each x [] e k = open-second x
-any-each x (y ∷ ys) e zero = left-not (shares x y) (sharesAny x ys) e
-any-each x (y ∷ ys) e (suc k) = any-each x ys (right-not (shares x y) (sharesAny x ys) e) k
+any-each x (y ∷ ys) e zero = neither-first (shares x y) (sharesAny x ys) e
+any-each x (y ∷ ys) e (suc k) = any-each x ys (neither-second (shares x y) (sharesAny x ys) e) k
 
 phantom-none : (s : List ℕ) → ((j d : ℕ) → 0 < d → j + d < length s → shares (getD s j 0) (getD s (j + d) 0) ≡ false) → isPhantom s ≡ false
 unfolding isPhantom
@@ -106,8 +99,8 @@ phantom-each : (s : List ℕ) → isPhantom s ≡ false → (j d : ℕ) → 0 < 
 unfolding isPhantom
 phantom-each [] e j d p = open-first 0
 phantom-each (x ∷ xs) e j zero p = absurd (omega arith)
-phantom-each (x ∷ xs) e zero (suc d) p = rw zero-add (any-each x xs (left-not (sharesAny x xs) (isPhantom xs) e) d)
-phantom-each (x ∷ xs) e (suc j) (suc d) p = rw suc-add (phantom-each xs (right-not (sharesAny x xs) (isPhantom xs) e) j (suc d) p)
+phantom-each (x ∷ xs) e zero (suc d) p = rw zero-add (any-each x xs (neither-first (sharesAny x xs) (isPhantom xs) e) d)
+phantom-each (x ∷ xs) e (suc j) (suc d) p = rw suc-add (phantom-each xs (neither-second (sharesAny x xs) (isPhantom xs) e) j (suc d) p)
 
 -- So a scan of 18 columns is phantom where the last two share, or one of sixteen with a column less than 18 behind it: a later
 -- column than those sixteen has another behind it only if it is the last but one.

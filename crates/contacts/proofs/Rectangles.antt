@@ -11,7 +11,8 @@ use lib.Count.{ones, ones-step}
 use lib.ListN.{length, getD, drop, drop-of-length-le}
 use lib.Seq.{drop-cons}
 use Rattle.basics.specs.Choice.{either}
-use Rattle.contacts.specs.Phantom.{twoClosed, shares, sharesAny, isPhantom, anyTwoClosed}
+use Rattle.basics.proofs.Cases.{either-true, either-false}
+use Rattle.contacts.specs.Phantom.{twoClosed, sharesAny, isPhantom, anyTwoClosed}
 
 -- The test of all columns for one with two closed rows.
 module _ (s : List ℕ) (j : ℕ) (h : j < length s)
@@ -21,22 +22,14 @@ module _ (s : List ℕ) (j : ℕ) (h : j < length s)
   any-at = i ∙ rw (e, add-one, drop-cons s j 0)
 
   pub any-yes : b ≡ true → (r : Bool) → r ≡ true → anyTwoClosed s ≡ either r (anyTwoClosed (drop (j + 1) s))
-  any-yes t r f = rw (f, any-at, t) (always any)
-    where
-      always : (a : Bool) → either a true ≡ true
-      always true = refl
-      always false = refl
+  any-yes t r f = rw (f, any-at, t) (either-true any)
 
   pub any-no : b ≡ false → (r : Bool) → r ≡ any → anyTwoClosed s ≡ either r (anyTwoClosed (drop (j + 1) s))
   any-no t r f = rw (f, any-at, t)
 
 pub any-end : (s : List ℕ) (j : ℕ) (any : Bool) → length s ≤ j → anyTwoClosed s ≡ either any (anyTwoClosed (drop j s)) → any ≡ anyTwoClosed s
 unfolding anyTwoClosed
-any-end s j any h i = sym (i ∙ rw drop-of-length-le (only any))
-  where
-    only : (a : Bool) → either a false ≡ a
-    only true = refl
-    only false = refl
+any-end s j any h i = sym (i ∙ rw drop-of-length-le (either-false any))
 
 -- Two columns have no more closed rows in common than one of them has.
 ones-and : (n a b : ℕ) → a ≤ n → ones (bitAnd a b) ≤ ones a

@@ -4,7 +4,7 @@ use Prim.Native.Nat.{ℕ, zero, suc, _+_, _*_}
 use mathlib.Core.Bool.{Bool}
 use mathlib.Core.List.{List}
 use lib.Dec.{ltb, eqb}
-use lib.ListN.{getD, set}
+use lib.ListN.{getD, set, replicate}
 use Rattle.basics.specs.Choice.{pick, both}
 use Rattle.basics.specs.Lists.{mapFrom, allUpTo}
 use Rattle.contacts.specs.declared.Contacts.{Contacts}
@@ -13,6 +13,10 @@ use Rattle.contacts.specs.Scans.{rowOf, contact, same}
 -- Contacts by their two parts.
 abbrev pub contacts : List ℕ → List ℕ → Contacts
 contacts closed counts = record { closed = closed; counts = counts }
+
+-- Contacts of which nothing has been seen.
+abbrev pub unseen : Contacts
+unseen = contacts (replicate 18 0) (replicate 144 0)
 
 -- A contact that counts as `closed` and is `seen`, each 1 or 0, after `count` scans in a row that showed it otherwise:
 -- the third such scan turns it, and any other scan ends the row. Its count,

@@ -1,29 +1,27 @@
 -- A record in its range stays in its range, whatever is called, and refused or not. Assumes nothing.
 use mathlib.Core.Path.{_≡_, refl}
-use mathlib.Core.Bool.{Bool, true, false}
+use mathlib.Core.Bool.{Bool, true}
 use mathlib.Core.List.{List, [], _∷_}
 use Prim.Native.Nat.{ℕ}
 use native.Mathlib.Omega.{arith}
 use lib.Dec.{eqb}
-use lib.ListN.{length, take, length-take, length-drop}
-use Rattle.basics.specs.Choice.{pick}
+use lib.ListN.{length}
 use Rattle.basics.specs.Lists.{allUpTo}
+use Rattle.basics.proofs.Cases.{by-cases, picked}
 use Rattle.contacts.specs.Phantom.{isPhantom}
 use Rattle.contacts.specs.Counts.{contacts, countedOf}
 use Rattle.frames.specs.declared.Unpacked.{Unpacked}
 use Rattle.frames.specs.declared.Unpacked.the-variants.{Byte, Broken, TooLarge}
 use Rattle.frames.specs.Frames.{unpackedOf}
 use Rattle.host.specs.Commands.{replying, tookByte}
-use Rattle.host.proofs.InRange.{replying-in-range, took-in-range}
+use Rattle.host.proofs.InRange.{InRange, replying-in-range, took-in-range}
 use Rattle.keying.specs.Handover.{handedOver}
 use Rattle.keying.specs.Repeat.{ticked}
-use Rattle.keying.proofs.Kept.{picked}
 use Rattle.keying.proofs.Good.{turns-good, ticked-good, repeated-good, handed-good}
 use Rattle.maps.specs.Maps.{hasDouble}
 use Rattle.queue.specs.declared.Queue.{Queue}
 use Rattle.queue.specs.declared.replies.Replies.{Replies}
-use Rattle.queue.specs.Queues.{waiting, tidy}
-use Rattle.queue.proofs.Meaning.{tidy-short, tidy-queueOf}
+use Rattle.queue.proofs.Range.{popped-tidy}
 use Rattle.queue.proofs.ReplyMeaning.{popped-replies-tidy}
 use Rattle.record.specs.declared.Keys.{Keys}
 use Rattle.record.specs.declared.Dock.{Dock}
@@ -42,14 +40,6 @@ use Rattle.dock.specs.Scan.{listening, counting, changed, quiet, repeati
 use Rattle.dock.specs.Swap.{opened, remapped, swapped, swapOf}
 use Rattle.dock.specs.Frame.{tookFrame, frameOf}
 use Rattle.dock.specs.Read.{oldest, behindIt, oldestReply, repliesBehind, remembering, replyTaken, keyByteTaken, read, readOf}
-
-abbrev InRange : Dock → Type 0
-InRange d = inRange d ≡ true
-
--- What holds of both holds of the one that is picked, of the first where the test holds.
-picked-if : {A : Type 0} (P : A → Type 0) (b : Bool) (x y : A) → (b ≡ true → P x) → P y → P (pick b x y)
-picked-if P true x y p q = p refl
-picked-if P false x y p q = q
 
 -- The rest of a record in its range is in its range by itself.
 pub rest-in-range : (map closed counts held types : List ℕ) (r : Rest) → inRange (dockWith map closed counts held types r) ≡ true
@@ -119,12 +109,6 @@ scan-in-range d scan h =
     picked Kept (inRange d) _ _ (picked Kept (eqb (length scan) 18) _ _ (scanned-in-range d scan h) h) h
 
 -- A read.
-behind-it-tidy : (q : Queue) → tidy q ≡ true → tidy (behindIt q) ≡ true
-unfolding waiting
-behind-it-tidy q t =
-    let bytes = take (q .length) (q .bytes) in
-    tidy-queueOf _ (omega (arith, length-drop 1 bytes, length-take (q .length) (q .bytes), tidy-short q t))
-
 pub reply-in-range : (d : Dock) → inRange d ≡ true → inRange (withReplies d (repliesBehind (d .replies))) ≡ true
 reply-in-range d h = in-range-with-replies d h _ (popped-replies-tidy (d .replies) (in-range-replies d h))
 
@@ -132,7 +116,7 @@ pub key-byte-in-range : (d : Dock) → inRange d ≡ true
     → inRange (withKeys d (withQueue (d .keys) (behindIt (d .keys .queue)))) ≡ true
 key-byte-in-range d h =
     let good = in-range-keys d h in
-    let tidied = behind-it-tidy (d .keys .queue) (good-keys-queue (d .keys) good) in
+    let tidied = popped-tidy (d .keys .queue) (good-keys-queue (d .keys) good) in
     in-range-with-keys d h _ (good-keys-with-queue (d .keys) good (behindIt (d .keys .queue)) tidied)
 
 -- Which byte was given makes no difference to that.
@@ -195,9 +179,9 @@ unfolding swapOf
 swap-in-range d map h =
     picked Kept (inRange d) _ _
     (picked Kept (eqb (length map) 144) _ _
-    (picked-if Kept (allUpTo 104 map) _ _
+    (by-cases Kept (allUpTo 104 map) _ _
     (λ g. picked Kept (hasDouble map) _ _ h (swapped-in-range d map h g))
-    h)
+    (λ g. h))
     h)
     h
 

@@ -6,13 +6,13 @@ use lib.Dec.{eqb, leb}
 use lib.ListN.{length}
 use Rattle.basics.specs.Choice.{between}
 use Rattle.basics.specs.Lists.{allUpTo}
+use Rattle.basics.proofs.Cases.{picked}
 use Rattle.contacts.specs.Phantom.{isPhantom}
 use Rattle.contacts.proofs.Pointwise.{closed-length, counts-length}
 use Rattle.frames.specs.declared.Unpacked.{Unpacked}
 use Rattle.frames.specs.declared.Unpacked.the-variants.{Byte, Broken, TooLarge}
 use Rattle.frames.specs.Frames.{unpackedOf}
 use Rattle.host.specs.Commands.{readied, enabled, defaulted, disabled, typed, cleared, restarted, obeyed, commanded, rightValue, valued, given, tookByte}
-use Rattle.keying.proofs.Kept.{picked}
 use Rattle.maps.specs.Maps.{hasDouble}
 use Rattle.record.specs.declared.Dock.{Dock}
 use Rattle.record.specs.Parts.{withMap}

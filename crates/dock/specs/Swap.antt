@@ -3,11 +3,12 @@ use mathlib.Core.Bool.{true}
 use mathlib.Core.List.{List}
 use Prim.Native.Nat.{ℕ}
 use lib.Dec.{eqb}
-use lib.ListN.{length, replicate}
+use lib.ListN.{length}
 use Rattle.basics.specs.Choice.{pick}
 use Rattle.basics.specs.Lists.{allUpTo}
+use Rattle.contacts.specs.Counts.{unseen}
 use Rattle.record.specs.declared.Dock.{Dock}
-use Rattle.record.specs.Parts.{dock, withMap, withRepeat}
+use Rattle.record.specs.Parts.{withMap, withContacts, withKeys, withHandover, withRepeat}
 use Rattle.record.specs.Range.{inRange}
 use Rattle.dock.specs.declared.Answer.the-variants.{Accepted, MapLength, MapEntry, MapDouble, BadRecord}
 use Rattle.dock.specs.declared.Answered.{Answered}
@@ -17,9 +18,7 @@ use Rattle.maps.specs.Maps.{hasDouble}
 
 -- A swap takes the map, drops contact history and the repeating key, and opens a handover.
 unfoldable pub opened : Dock → List ℕ → Dock
-opened d map =
-    dock map (record { closed = replicate 18 0; counts = replicate 144 0 }) (withRepeat (d .keys) 0 0)
-    (d .types) (d .mode) (d .replies) (d .scanning) (d .waiting) true (d .given)
+opened d map = withHandover (withKeys (withContacts (withMap d map) unseen) (withRepeat (d .keys) 0 0)) true
 
 -- A second swap during a handover only replaces the map.
 unfoldable pub remapped : Dock → List ℕ → Dock

@@ -8,10 +8,10 @@ use lib.Dec.{eqb}
 use lib.ListN.{length, getD, getD-replicate}
 use Rattle.contacts.specs.declared.Contacts.{Contacts}
 use Rattle.contacts.specs.Scans.{contact}
-use Rattle.contacts.specs.Counts.{nextCount, countedOf}
+use Rattle.contacts.specs.Counts.{unseen, nextCount, countedOf}
 use Rattle.contacts.proofs.Pointwise.{contact-small, next-count-small, closed-length, counts-length, closed-pointwise, counts-pointwise}
 use Rattle.history.specs.Rows.{saysClosed}
-use Rattle.history.specs.Scans.{shownAt, unseen, countedAll}
+use Rattle.history.specs.Scans.{shownAt, countedAll}
 use Rattle.history.proofs.Rows.{endsClosed, ends-next, ends-now}
 
 -- One scan more.
@@ -32,11 +32,9 @@ counts-kept k [] = refl
 counts-kept k (scan ∷ scans) = counts-kept (countedOf k scan) scans ∙ counts-length k scan
 
 pub counted-closed-length : (scans : List (List ℕ)) → length (countedAll unseen scans .closed) ≡ 18
-unfolding unseen
 counted-closed-length scans = closed-kept unseen scans
 
 pub counted-counts-length : (scans : List (List ℕ)) → length (countedAll unseen scans .counts) ≡ 144
-unfolding unseen
 counted-counts-length scans = counts-kept unseen scans
 
 -- From any contacts on: each ends as the scans in its count and those to come say.
@@ -59,17 +57,16 @@ ends k (scan ∷ scans) l m position h n =
 
 -- Nothing is closed and nothing counted in contacts of which nothing has been seen.
 unseen-open : (position : ℕ) → position < 144 → contact (unseen .closed) position ≡ 0
-unfolding unseen contact
+unfolding contact
 unseen-open position h = rw (getD-replicate {A = ℕ} 18 (position / 8) 0 0 (omega arith), zero-div)
 
 unseen-count : (position : ℕ) → position < 144 → getD (unseen .counts) position 0 ≡ 0
-unfolding unseen
 unseen-count position h = getD-replicate 144 position 0 0 h
 
 -- From unseen contacts on: each counts as what all the scans say.
 pub counters-agree : (scans : List (List ℕ)) (position : ℕ) → position < 144
     → eqb (contact (countedAll unseen scans .closed) position) 1 ≡ saysClosed (shownAt position scans)
-unfolding endsClosed unseen
+unfolding endsClosed
 counters-agree scans position h =
     ends unseen scans refl refl position h (rw (unseen-count position h) (omega arith))
     ∙ ap₂ (λ (c d : ℕ). endsClosed c d (shownAt position scans)) (unseen-open position h) (unseen-count position h)

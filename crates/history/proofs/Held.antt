@@ -9,7 +9,7 @@ use borrow.Author.Tests.{eq-eqb, ne-eqb, eqb-true}
 use lib.Dec.{eqb}
 use lib.ListN.{length, getD}
 use Rattle.basics.specs.Choice.{both, either}
-use Rattle.basics.proofs.Cases.{neither-first, neither-second}
+use Rattle.basics.proofs.Cases.{either-true, either-false, neither-first, neither-second}
 use Rattle.maps.specs.Maps.{isIn, hasDouble}
 use Rattle.history.specs.Rows.{saysClosed}
 use Rattle.history.specs.Scans.{shownAt, saysHeldFrom, saysHeld}
@@ -31,11 +31,7 @@ is-in-at : (map : List ℕ) (position : ℕ) → position < length map → isIn 
 unfolding isIn
 is-in-at [] position h = absurd (not-suc-le-zero h)
 is-in-at (k ∷ ks) zero h = rw (eq-eqb k k refl)
-is-in-at (k ∷ ks) (suc position) h = rw (is-in-at ks position (le-of-suc-le-suc h)) (always (eqb k (getD ks position 0)))
-  where
-    always : (b : Bool) → either b true ≡ true
-    always true = refl
-    always false = refl
+is-in-at (k ∷ ks) (suc position) h = rw (is-in-at ks position (le-of-suc-le-suc h)) (either-true (eqb k (getD ks position 0)))
 
 pub absent-at : (key : ℕ) (map : List ℕ) → isIn key map ≡ false → (position : ℕ) → position < length map → getD map position 0 ≡ key → ⊥
 absent-at key map e position h g = false≢true (sym e ∙ rw (← g) (is-in-at map position h))
@@ -77,11 +73,7 @@ unfolding saysHeldFrom
 held-from from [] scans position key d h e n = absurd (not-suc-le-zero h)
 held-from from (k ∷ ks) scans zero key d h e n =
     let elsewhere : isIn key ks ≡ false = rw (← e) (not-again k ks d (λ z. omega arith)) in
-    rw (eq-eqb k key e, nowhere-from (suc from) ks scans key elsewhere, add-zero) (only (saysClosed (shownAt from scans)))
-  where
-    only : (b : Bool) → either b false ≡ b
-    only true = refl
-    only false = refl
+    rw (eq-eqb k key e, nowhere-from (suc from) ks scans key elsewhere, add-zero) (either-false (saysClosed (shownAt from scans)))
 held-from from (k ∷ ks) scans (suc position) key d h e n =
     let other : k ≡ key → ⊥ = λ z. absent-at k ks (not-again k ks d (λ y. omega arith)) position (le-of-suc-le-suc h) (e ∙ sym z) in
     rw (ne-eqb k key other, add-suc, ← suc-add) (held-from (suc from) ks scans position key (no-double-after k ks d) (le-of-suc-le-suc h) e n)

@@ -4,7 +4,6 @@ use Prim.Native.Nat.{ℕ, suc}
 use mathlib.Core.Bool.{Bool, false}
 use mathlib.Core.List.{List, [], _∷_, map}
 use lib.Dec.{eqb}
-use lib.ListN.{replicate}
 use Rattle.basics.specs.Choice.{both, either}
 use Rattle.contacts.specs.declared.Contacts.{Contacts}
 use Rattle.contacts.specs.Scans.{contact}
@@ -24,10 +23,6 @@ saysHeldFrom position (k ∷ ks) scans key =
 -- The same by a whole map.
 unfoldable pub saysHeld : List ℕ → List (List ℕ) → ℕ → Bool
 saysHeld map scans key = saysHeldFrom 0 map scans key
-
--- Contacts of which nothing has been seen.
-unfoldable pub unseen : Contacts
-unseen = record { closed = replicate 18 0; counts = replicate 144 0 }
 
 -- What the dock's counters make of the scans, one after the other.
 unfoldable pub countedAll : Contacts → List (List ℕ) → Contacts

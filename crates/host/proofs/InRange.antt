@@ -2,12 +2,13 @@
 use mathlib.Core.Path.{_≡_, refl}
 use mathlib.Core.Bool.{Bool, true, false}
 use mathlib.Core.List.{List, [], _∷_}
-use Prim.Native.Nat.{ℕ, zero, suc, _-_, _≤_}
+use Prim.Native.Nat.{ℕ, _-_, _≤_}
 use native.Mathlib.Omega.{arith}
-use borrow.Author.Tests.{leb-true, le-leb}
+use borrow.Author.Tests.{leb-true}
 use lib.Dec.{eqb, leb}
-use lib.ListN.{length, set, replicate}
+use lib.ListN.{length, replicate}
 use Rattle.basics.specs.Choice.{pick, both, either, between}
+use Rattle.basics.proofs.Cases.{by-cases, picked, either-true}
 use Rattle.basics.proofs.Flags.{left-of-both, right-of-both}
 use Rattle.lookup.specs.Lookup.{keyWith}
 use Rattle.queue.specs.Queues.{queueOf}
@@ -15,7 +16,7 @@ use Rattle.queue.specs.Replies.{repliesOf}
 use Rattle.queue.proofs.Meaning.{tidy-queueOf}
 use Rattle.queue.proofs.ReplyMeaning.{tidy-repliesOf}
 use Rattle.record.specs.declared.Dock.{Dock}
-use Rattle.record.specs.Power.{defaultTypes, freshWith, powerOn}
+use Rattle.record.specs.Power.{defaultTypes}
 use Rattle.record.specs.Range.{takesValue, goodWaiting, inRange}
 use Rattle.record.proofs.Ranges.{good-mode, good-mode-set, good-mode-rate, good-mode-indicators, good-keys-with-queue, good-keys-with-repeat}
 use Rattle.record.proofs.Ranges.{in-range-map, in-range-keys, in-range-mode, in-range-replies}
@@ -26,31 +27,24 @@ use Rattle.host.specs.Commands.{replying, cleared, unrepeated, withSet, 
 use Rattle.host.specs.Commands.{readied, enabled, defaulted, disabled, typed, restarted, obeyed, replyTo, commanded}
 use Rattle.host.specs.Commands.{rightValue, valued, given, tookByte}
 
--- Of two records the one that is picked is in range, and of two lists it is short.
-picked : (t : Bool) (x y : Dock) → (t ≡ true → inRange x ≡ true) → inRange y ≡ true → inRange (pick t x y) ≡ true
-picked true x y f g = f refl
-picked false x y f g = g
+abbrev Short : List ℕ → Type 0
+Short l = length l ≤ 3
 
-short : (t : Bool) (x y : List ℕ) → length x ≤ 3 → length y ≤ 3 → length (pick t x y) ≤ 3
-short true x y f g = f
-short false x y f g = g
+abbrev pub InRange : Dock → Type 0
+InRange d = inRange d ≡ true
 
 -- No command is answered with more than three bytes.
 pub reply-short : (byte : ℕ) → length (replyTo byte) ≤ 3
 unfolding replyTo
 reply-short byte =
-    short (eqb byte 0xee) (0xee ∷ []) _ (omega arith)
-    (short (either (eqb byte 0xef) (eqb byte 0xf1)) (0xfe ∷ []) _ (omega arith)
-    (short (eqb byte 0xf2) (0xfa ∷ 0xab ∷ 0x83 ∷ []) _ (omega arith)
-    (short (eqb byte 0xff) (0xfa ∷ 0xaa ∷ []) (0xfa ∷ []) (omega arith) (omega arith))))
+    picked Short (eqb byte 0xee) (0xee ∷ []) _ (omega arith)
+    (picked Short (either (eqb byte 0xef) (eqb byte 0xf1)) (0xfe ∷ []) _ (omega arith)
+    (picked Short (eqb byte 0xf2) (0xfa ∷ 0xab ∷ 0x83 ∷ []) _ (omega arith)
+    (picked Short (eqb byte 0xff) (0xfa ∷ 0xaa ∷ []) (0xfa ∷ []) (omega arith) (omega arith))))
 
 -- A command that is left waiting takes a value.
 waits-well : (byte : ℕ) (t : Bool) → takesValue byte ≡ t → goodWaiting (pick t byte 0) ≡ true
-waits-well byte true e = rw e (always (eqb byte 0))
-  where
-    always : (b : Bool) → either b true ≡ true
-    always true = refl
-    always false = refl
+waits-well byte true e = rw e (either-true (eqb byte 0))
 waits-well byte false e = refl
 
 module _ (d : Dock) (h : inRange d ≡ true) where
@@ -102,14 +96,13 @@ module _ (d : Dock) (h : inRange d ≡ true) where
   obeyed-in-range : (byte : ℕ) → inRange (obeyed byte d) ≡ true
   unfolding obeyed
   obeyed-in-range byte =
-      picked (eqb byte 0xf0) (readied d) _ (λ e. rate-in-range (unrepeated (cleared d)) still-in-range 0x2b (omega arith))
-      (picked (eqb byte 0xf4) (enabled d) _ (λ e. in-range-with-scanning (unrepeated (cleared d)) still-in-range true)
-      (picked (eqb byte 0xf5) (disabled d) _ (λ e. in-range-with-scanning (defaulted d) defaulted-in-range false)
-      (picked (eqb byte 0xf6) (defaulted d) _ (λ e. defaulted-in-range)
-      (picked (between 0xf7 0xfa byte) (typed (byte - 0xf7) d) _
-      (λ e. typed-in-range (byte - 0xf7))
-      (picked (between 0xfb 0xfd byte) (cleared d) _ (λ e. cleared-in-range d h)
-      (picked (eqb byte 0xff) (restarted d) d (λ e. restarted-in-range d h) h))))))
+      picked InRange (eqb byte 0xf0) (readied d) _ (rate-in-range (unrepeated (cleared d)) still-in-range 0x2b (omega arith))
+      (picked InRange (eqb byte 0xf4) (enabled d) _ (in-range-with-scanning (unrepeated (cleared d)) still-in-range true)
+      (picked InRange (eqb byte 0xf5) (disabled d) _ (in-range-with-scanning (defaulted d) defaulted-in-range false)
+      (picked InRange (eqb byte 0xf6) (defaulted d) _ defaulted-in-range
+      (picked InRange (between 0xf7 0xfa byte) (typed (byte - 0xf7) d) _ (typed-in-range (byte - 0xf7))
+      (picked InRange (between 0xfb 0xfd byte) (cleared d) _ (cleared-in-range d h)
+      (picked InRange (eqb byte 0xff) (restarted d) d (restarted-in-range d h) h))))))
 
   commanded-in-range : (byte : ℕ) → inRange (commanded byte d) ≡ true
   unfolding commanded
@@ -134,13 +127,13 @@ module _ (d : Dock) (h : inRange d ≡ true) where
   given-in-range : (byte : ℕ) → inRange (given byte d) ≡ true
   unfolding given
   given-in-range byte =
-      picked (rightValue (d .waiting) byte) _ _
+      by-cases InRange (rightValue (d .waiting) byte) _ _
       (λ e. replying-in-range _ (in-range-with-waiting (valued (d .waiting) byte d) (valued-in-range (d .waiting) byte e) 0 refl) (0xfa ∷ []) (omega arith))
-      (replying-in-range d h (0xfe ∷ []) (omega arith))
+      (λ e. replying-in-range d h (0xfe ∷ []) (omega arith))
 
   -- Any byte.
   pub took-in-range : (byte : ℕ) → inRange (tookByte byte d) ≡ true
   unfolding tookByte
   took-in-range byte =
-      picked (eqb byte 0xfe) _ _ (λ e. replying-in-range d h (d .given ∷ []) (omega arith))
-      (picked (leb 0xed byte) (commanded byte d) (given byte d) (λ e. commanded-in-range byte) (given-in-range byte))
+      picked InRange (eqb byte 0xfe) _ _ (replying-in-range d h (d .given ∷ []) (omega arith))
+      (picked InRange (leb 0xed byte) (commanded byte d) (given byte d) (commanded-in-range byte) (given-in-range byte))

@@ -2,66 +2,34 @@
 use mathlib.Core.Path.{_≡_, ap, _∙_}
 use mathlib.Core.Bool.{Bool, true}
 use mathlib.Core.List.{List}
-use Prim.Native.Nat.{ℕ, zero, suc, _+_, _*_, _-_, _/_, _%_, _^_, _≤_, _<_}
+use Prim.Native.Nat.{ℕ, zero, suc, _+_, _*_, _/_, _%_, _^_, _≤_, _<_}
 use native.Mathlib.Omega.{arith}
-use borrow.Author.Tests.{leb-true, le-leb}
-use lib.Dec.{leb, eqb}
-use lib.ListN.{length, getD, set, take, length-take}
-use Rattle.basics.specs.Choice.{both, between}
+use lib.Dec.{eqb}
+use lib.ListN.{getD}
 use Rattle.basics.specs.Lists.{allUpTo}
-use Rattle.basics.proofs.Flags.{left-of-both, right-of-both}
+use Rattle.basics.proofs.Cases.{picked}
 use Rattle.codes.specs.declared.Action.the-variants.{Press, Release, Repeat}
 use Rattle.codes.specs.Codes.{mayRepeat}
 use Rattle.keys.specs.Keys.{markOf}
 use Rattle.queue.specs.declared.Queue.{Queue}
-use Rattle.queue.specs.Queues.{waiting, tidy}
+use Rattle.queue.specs.Queues.{tidy}
 use Rattle.queue.proofs.Meaning.{tidy-short, tidy-queueOf}
-use Rattle.queue.proofs.Room.{pushed-short}
+use Rattle.queue.proofs.Range.{pushed-tidy}
 use Rattle.record.specs.declared.Mode.{Mode}
 use Rattle.record.specs.declared.Keys.{Keys}
 use Rattle.record.specs.Range.{goodMode, goodKeys}
+use Rattle.record.proofs.Ranges.{good-mode-rate, good-keys, good-keys-queue, good-keys-repeating, good-keys-clock, good-keys-with-repeat}
 use Rattle.keying.specs.Sending.{sends, queuedOf}
 use Rattle.keying.specs.Repeat.{delayOf, intervalOf, ticked, isDue, repeated}
-use Rattle.keying.specs.Moves.{pressed, releasedWith, released, moved, turned, turnsTo}
+use Rattle.keying.specs.Moves.{pressed, releasedWith, released, moved, turnsTo}
 use Rattle.keying.specs.Handover.{handedFrom}
 use Rattle.keying.proofs.Sent.{sends-short}
-use Rattle.keying.proofs.Kept.{picked, handed-keeps, moved-keeps, turned-keeps, turns-keep}
-
--- What the range of the keys says of each part.
-pub record Parts (k : Keys) : Type 0 where
-  pub queue : tidy (k .queue) ≡ true
-  pub repeating : k .repeating ≤ 104
-  pub clock : k .clock ≤ 240
-
-pub parts : (k : Keys) → goodKeys k ≡ true → Parts k
-unfolding goodKeys
-parts k g =
-    let h = leb (k .repeating) 104 in
-    let t = leb (k .clock) 240 in
-    let last = right-of-both (tidy (k .queue)) (both h t) g in
-    record {
-      queue = left-of-both (tidy (k .queue)) (both h t) g;
-      repeating = leb-true _ _ (left-of-both h t last);
-      clock = leb-true _ _ (right-of-both h t last);
-    }
-
-pub whole : (k : Keys) → Parts k → goodKeys k ≡ true
-unfolding goodKeys
-whole k p = rw (p .queue, le-leb _ _ (p .repeating), le-leb _ _ (p .clock))
-
-pub rate-small : (m : Mode) → goodMode m ≡ true → m .rate ≤ 127
-unfolding goodMode
-rate-small m g =
-    let rate = leb (m .rate) 127 in
-    let rest = both rate (leb (m .indicators) 7) in
-    leb-true _ _ (left-of-both rate (leb (m .indicators) 7) (right-of-both (between 1 3 (m .set)) rest g))
+use Rattle.keying.proofs.Kept.{handed-keeps, moved-keeps, turns-keep}
 
 -- A queue stays one, whatever is queued.
 pub queued-tidy : (q : Queue) (m : Mode) (bytes : List ℕ) → tidy q ≡ true → tidy (queuedOf q m bytes) ≡ true
-unfolding queuedOf waiting
-queued-tidy q m bytes t =
-    let short : length (take (q .length) (q .bytes)) ≤ 16 = omega (arith, length-take (q .length) (q .bytes), tidy-short q t) in
-    tidy-queueOf _ (pushed-short (markOf (m .set)) (take (q .length) (q .bytes)) bytes short)
+unfolding queuedOf
+queued-tidy q m bytes t = pushed-tidy q t (markOf (m .set)) bytes
 
 pub queued-short : (after q : Queue) (m : Mode) (bytes : List ℕ) → after ≡ queuedOf q m bytes → tidy q ≡ true → after .length ≤ 16
 queued-short after q m bytes e t = tidy-short after (ap tidy e ∙ queued-tidy q m bytes t)
@@ -90,12 +58,10 @@ module _ (m : Mode) where
   pub released-good : (k : Keys) (type key : ℕ) → goodKeys k ≡ true → goodKeys (released k m type key) ≡ true
   unfolding released releasedWith
   released-good k type key g =
-      let p = parts k g in
-      whole _ (record {
-        queue = queued-tidy (k .queue) m (sends k m type key Release) (p .queue);
-        repeating = picked (λ (n : ℕ). n ≤ 104) (eqb (k .repeating) key) 0 (k .repeating) (omega arith) (p .repeating);
-        clock = picked (λ (n : ℕ). n ≤ 240) (eqb (k .repeating) key) 0 (k .clock) (omega arith) (p .clock);
-      })
+      good-keys _
+      (queued-tidy (k .queue) m (sends k m type key Release) (good-keys-queue k g))
+      (picked (λ (n : ℕ). n ≤ 104) (eqb (k .repeating) key) 0 (k .repeating) (omega arith) (good-keys-repeating k g))
+      (picked (λ (n : ℕ). n ≤ 240) (eqb (k .repeating) key) 0 (k .clock) (omega arith) (good-keys-clock k g))
 
   pub handed-good : (n key : ℕ) (k : Keys) (types : List ℕ) → goodKeys k ≡ true → goodKeys (handedFrom n key k m types .keys) ≡ true
   handed-good = handed-keeps InRange m released-good
@@ -104,43 +70,34 @@ module _ (m : Mode) where
     pub pressed-good : (k : Keys) (type key : ℕ) → key ≤ 104 → goodKeys k ≡ true → goodKeys (pressed k m type key) ≡ true
     unfolding pressed
     pressed-good k type key l g =
-        let p = parts k g in
         let may = mayRepeat (m .set) key type in
-        whole _ (record {
-          queue = queued-tidy (k .queue) m (sends k m type key Press) (p .queue);
-          repeating = picked (λ (n : ℕ). n ≤ 104) may key 0 l (omega arith);
-          clock = picked (λ (n : ℕ). n ≤ 240) may (delayOf (m .rate)) 0 (delay-small (m .rate) (rate-small m h)) (omega arith);
-        })
+        good-keys _
+        (queued-tidy (k .queue) m (sends k m type key Press) (good-keys-queue k g))
+        (picked (λ (n : ℕ). n ≤ 104) may key 0 l (omega arith))
+        (picked (λ (n : ℕ). n ≤ 240) may (delayOf (m .rate)) 0 (delay-small (m .rate) (good-mode-rate m h)) (omega arith))
 
     module _ (types : List ℕ) where
       pub moved-good : (key closed : ℕ) → key ≤ 104 → (k : Keys) → goodKeys k ≡ true → goodKeys (moved k m types key closed) ≡ true
       moved-good = moved-keeps InRange m released-good pressed-good types
 
       module _ (map : List ℕ) (a : allUpTo 104 map ≡ true) where
-        pub turned-good : (position before after : ℕ) (k : Keys) → goodKeys k ≡ true → goodKeys (turned m types map position before after k) ≡ true
-        turned-good = turned-keeps InRange m released-good pressed-good types map a
-
         pub turns-good : (n : ℕ) (was is : List ℕ) (k : Keys) → goodKeys k ≡ true → goodKeys (turnsTo n m types map was is k) ≡ true
         turns-good = turns-keep InRange m released-good pressed-good types map a
 
 -- The key that repeats.
 pub ticked-good : (k : Keys) → goodKeys k ≡ true → goodKeys (ticked k) ≡ true
-ticked-good k g =
-    let p = parts k g in
-    whole _ (record { queue = p .queue; repeating = p .repeating; clock = omega arith })
+ticked-good k g = good-keys-with-repeat k g _ _ (good-keys-repeating k g) (omega (arith, good-keys-clock k g))
 
 pub repeated-good : (k : Keys) (m : Mode) (types : List ℕ) (quiet : Bool) → goodKeys k ≡ true → goodKeys (repeated k m types quiet) ≡ true
 unfolding repeated
 repeated-good k m types quiet g =
-    let p = parts k g in
     let type = getD types (k .repeating) 0 in
     let short = sends-short k m type (k .repeating) Repeat in
     picked InRange (isDue k) _ _
     (picked InRange (mayRepeat (m .set) (k .repeating) type) _ _
-    (whole _ (record {
-      queue = picked (λ (q : Queue). tidy q ≡ true) quiet _ _ (tidy-queueOf _ (omega (arith, short))) (p .queue);
-      repeating = p .repeating;
-      clock = omega (arith, interval-small (m .rate));
-    }))
-    (whole _ (record { queue = p .queue; repeating = omega arith; clock = omega arith })))
+    (good-keys _
+    (picked (λ (q : Queue). tidy q ≡ true) quiet _ _ (tidy-queueOf _ (omega (arith, short))) (good-keys-queue k g))
+    (good-keys-repeating k g)
+    (omega (arith, interval-small (m .rate))))
+    (good-keys-with-repeat k g 0 0 (omega arith) (omega arith)))
     g

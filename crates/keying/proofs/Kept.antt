@@ -1,12 +1,13 @@
 -- What every press and every release keeps, turned contacts and a handover keep. Assumes nothing.
 use mathlib.Core.Path.{_≡_}
-use mathlib.Core.Bool.{Bool, true, false, not}
+use mathlib.Core.Bool.{true, not}
 use mathlib.Core.List.{List}
 use Prim.Native.Nat.{ℕ, zero, suc, _≤_}
 use lib.Dec.{eqb}
 use lib.ListN.{getD}
-use Rattle.basics.specs.Choice.{pick, either}
+use Rattle.basics.specs.Choice.{either}
 use Rattle.basics.specs.Lists.{allUpTo}
+use Rattle.basics.proofs.Cases.{picked}
 use Rattle.basics.proofs.Limits.{up-to-at}
 use Rattle.contacts.specs.Scans.{contact}
 use Rattle.record.specs.declared.Mode.{Mode}
@@ -14,11 +15,6 @@ use Rattle.record.specs.declared.Keys.{Keys}
 use Rattle.keying.specs.declared.Handed.{Handed}
 use Rattle.keying.specs.Moves.{pressed, released, moved, turned, turnsTo}
 use Rattle.keying.specs.Handover.{isHeld, canLeave, handedFrom}
-
--- What holds of both holds of the one that is picked.
-pub picked : {A : Type 0} (P : A → Type 0) (b : Bool) (x y : A) → P x → P y → P (pick b x y)
-picked P true x y p q = p
-picked P false x y p q = q
 
 module _ (P : Keys → Type 0) (m : Mode) (up : (k : Keys) (type key : ℕ) → P k → P (released k m type key)) where
   pub handed-keeps : (n key : ℕ) (k : Keys) (types : List ℕ) → P k → P (handedFrom n key k m types .keys)
@@ -37,7 +33,7 @@ module _ (P : Keys → Type 0) (m : Mode) (up : (k : Keys) (type key : ℕ) → 
         (picked P (eqb closed 1) _ _ (down k (getD types key 0) key h p) (up k (getD types key 0) key p))
 
     module _ (map : List ℕ) (a : allUpTo 104 map ≡ true) where
-      pub turned-keeps : (position before after : ℕ) (k : Keys) → P k → P (turned m types map position before after k)
+      turned-keeps : (position before after : ℕ) (k : Keys) → P k → P (turned m types map position before after k)
       unfolding turned
       turned-keeps position before after k p =
           picked P (eqb before after) _ _ p (moved-keeps (getD map position 0) after (up-to-at 104 map position a) k p)

@@ -6,6 +6,7 @@ use Prim.Native.Nat.{ℕ, _≤_}
 use native.Mathlib.Omega.{arith}
 use lib.ListN.{length, getD, take, length-take, length-set}
 use Rattle.basics.specs.Lists.{allUpTo}
+use Rattle.basics.proofs.Cases.{picked}
 use Rattle.codes.specs.declared.Action.the-variants.{Press, Release, Repeat}
 use Rattle.codes.specs.Codes.{mayRepeat}
 use Rattle.keys.specs.Keys.{markOf}
@@ -20,7 +21,7 @@ use Rattle.keying.specs.Repeat.{isDue, repeated}
 use Rattle.keying.specs.Moves.{pressed, releasedWith, released, moved, turnsTo}
 use Rattle.keying.specs.Handover.{handedFrom}
 use Rattle.keying.proofs.Sent.{sends-short}
-use Rattle.keying.proofs.Kept.{picked, handed-keeps, moved-keeps, turns-keep}
+use Rattle.keying.proofs.Kept.{handed-keeps, moved-keeps, turns-keep}
 
 pub record Places (k : Keys) : Type 0 where
   pub flags : length (k .held) ≡ 144

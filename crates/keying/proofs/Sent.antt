@@ -1,11 +1,10 @@
 -- What a key sends: at most 8 bytes, and a sequence that holds them has them as its contents. Assumes nothing.
 use mathlib.Core.Path.{_≡_, ap, _∙_}
-use mathlib.Core.Bool.{Bool, true, false}
 use Prim.Native.Nat.{ℕ, _≤_}
 use native.Mathlib.Omega.{arith}
 use lib.Dec.{eqb}
 use lib.ListN.{length}
-use Rattle.basics.specs.Choice.{pick}
+use Rattle.basics.proofs.Cases.{picked}
 use Rattle.codes.specs.declared.Action.{Action}
 use Rattle.codes.specs.declared.Sequence.{Sequence}
 use Rattle.codes.specs.Sequences.{holding}
@@ -34,8 +33,4 @@ module _ (k : Keys) (m : Mode) (type key : ℕ) (action : Action) where
 
 -- A flag counts at most 1, so the modifiers' number fits a byte, with every part of its sum.
 pub flag-small : (x r : ℕ) → r ≡ flagOf x → r ≤ 1
-flag-small x r e = rw e (go (eqb x 0))
-  where
-    go : (b : Bool) → pick {A = ℕ} b 0 1 ≤ 1
-    go true = omega arith
-    go false = omega arith
+flag-small x r e = rw e (picked (λ (n : ℕ). n ≤ 1) (eqb x 0) 0 1 (omega arith) (omega arith))

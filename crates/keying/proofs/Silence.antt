@@ -1,13 +1,14 @@
 -- What is sent where there is little room: the mark stands for anything but nothing. Assumes nothing.
 use mathlib.Core.Path.{_≡_, refl, sym, ap, _∙_}
 use mathlib.Core.Bool.{Bool, true, false, not}
-use mathlib.Core.List.{List, [], _∷_, _++_}
-use Prim.Native.Nat.{ℕ, _+_, _-_, _%_, _≤_, _<_}
+use mathlib.Core.List.{List, [], _++_}
+use Prim.Native.Nat.{ℕ, _+_, _-_, _≤_, _<_}
 use native.Mathlib.Omega.{arith}
 use borrow.Author.Tests.{lt-leb, eq-eqb, ne-eqb, eqb-false}
 use lib.Dec.{eqb}
 use lib.ListN.{length, length-append, set as put}
 use Rattle.basics.specs.Choice.{pick, both, either}
+use Rattle.basics.proofs.Cases.{picked, two-by-cases}
 use Rattle.codes.specs.declared.Action.the-variants.{Press, Release}
 use Rattle.codes.specs.declared.Sequence.{Sequence}
 use Rattle.codes.specs.Codes.{prefix, makeOf, breakOf, before, after, codeOf, isOther, isPause, pausesAtOnce, pauseBytes, sendsRelease, bytesOf, encode, formOf}
@@ -20,9 +21,8 @@ use Rattle.queue.proofs.Pushing.{marked-last}
 use Rattle.record.specs.declared.Mode.{Mode}
 use Rattle.keying.specs.Sending.{queuedOf, shortestRelease}
 
-picked-long : (n : ℕ) (b : Bool) (x y : List ℕ) → n ≤ length x → n ≤ length y → n ≤ length (pick b x y)
-picked-long n true x y p q = p
-picked-long n false x y p q = q
+abbrev Long : ℕ → List ℕ → Type 0
+Long n l = n ≤ length l
 
 behind : (n : ℕ) (front rest : List ℕ) → n ≤ length rest → n ≤ length (front ++ rest)
 behind n front rest h = rw (length-append front rest) (omega arith)
@@ -36,19 +36,16 @@ make-some code = behind 1 (prefix code) _ (omega arith)
 
 break-long : (set code : ℕ) → shortestRelease set ≤ length (breakOf set code)
 unfolding breakOf
-break-long set code = behind (shortestRelease set) (prefix code) _ (go (eqb set 1))
-  where
-    go : (b : Bool) → pick {A = ℕ} b 1 2 ≤ length (pick b ((code % 128 + 128) ∷ []) (0xf0 ∷ (code % 256) ∷ []))
-    go true = omega arith
-    go false = omega arith
+break-long set code =
+    behind (shortestRelease set) (prefix code) _ (two-by-cases Long (eqb set 1) 1 2 _ _ (λ e. omega arith) (λ e. omega arith))
 
 -- A press always sends something.
 pub press-some : (set key type mods : ℕ) (lock : Bool) → 1 ≤ length (encode set key Press type mods lock)
 unfolding encode bytesOf pauseBytes
 press-some set key type mods lock =
     let form = formOf set key mods lock in
-    picked-long 1 (pausesAtOnce set key) _ _
-    (picked-long 1 (isOther form) _ _ (ahead 1 (makeOf (codeIn set 101)) _ (make-some (codeIn set 101))) (omega arith))
+    picked (Long 1) (pausesAtOnce set key) _ _
+    (picked (Long 1) (isOther form) _ _ (ahead 1 (makeOf (codeIn set 101)) _ (make-some (codeIn set 101))) (omega arith))
     (behind 1 (before set form) _ (make-some (codeOf set key form)))
 
 -- A silent release sends nothing, and any other has as many bytes as the shortest, or more.

@@ -11,34 +11,26 @@ use Rattle.queue.specs.declared.Queue.{Queue}
 use Rattle.queue.specs.Queues.{queueWith}
 use Rattle.record.specs.declared.Mode.{Mode}
 use Rattle.record.specs.declared.Keys.{Keys}
+use Rattle.record.specs.Parts.{keys}
 use Rattle.keying.specs.declared.Told.{Told}
 use Rattle.keying.specs.Sending.{sends, queuedOf}
 use Rattle.keying.specs.Repeat.{delayOf}
 
 -- The keys of these parts: the flags, the bytes of the queue, and the rest.
 abbrev pub keysTold : List ℕ → List ℕ → Told → Keys
-keysTold held bytes t =
-    record { held = held; queue = queueWith bytes (t .length); repeating = t .repeating; clock = t .clock }
+keysTold held bytes t = keys held (queueWith bytes (t .length)) (t .repeating) (t .clock)
 
 -- A key is pressed: it is held, its bytes are queued, and it is the one that repeats, if it may; else none does.
 unfoldable pub pressed : Keys → Mode → ℕ → ℕ → Keys
 pressed k m type key =
-    record {
-      held = set (k .held) key 1;
-      queue = queuedOf (k .queue) m (sends k m type key Press);
-      repeating = pick (mayRepeat (m .set) key type) key 0;
-      clock = pick (mayRepeat (m .set) key type) (delayOf (m .rate)) 0;
-    }
+    let repeats = mayRepeat (m .set) key type in
+    keys (set (k .held) key 1) (queuedOf (k .queue) m (sends k m type key Press)) (pick repeats key 0) (pick repeats (delayOf (m .rate)) 0)
 
 -- A key is let go, and this is the queue then: it is not held any more, and if it was the one that repeats, none does.
 abbrev pub letGo : Keys → ℕ → Queue → Keys
 letGo k key queue =
-    record {
-      held = set (k .held) key 0;
-      queue = queue;
-      repeating = pick (eqb (k .repeating) key) 0 (k .repeating);
-      clock = pick (eqb (k .repeating) key) 0 (k .clock);
-    }
+    let stops = eqb (k .repeating) key in
+    keys (set (k .held) key 0) queue (pick stops 0 (k .repeating)) (pick stops 0 (k .clock))
 
 -- A key is released, and these bytes say so: they are queued.
 unfoldable pub releasedWith : Keys → Mode → ℕ → List ℕ → Keys

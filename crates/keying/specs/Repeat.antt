@@ -11,7 +11,7 @@ use Rattle.queue.specs.Queues.{queueOf}
 use Rattle.record.specs.declared.Mode.{Mode}
 use Rattle.record.specs.declared.Keys.{Keys}
 use Rattle.record.specs.declared.Outgoing.{Outgoing}
-use Rattle.record.specs.Parts.{withRepeat}
+use Rattle.record.specs.Parts.{withQueue, withRepeat}
 use Rattle.keying.specs.Sending.{sends}
 
 -- The scans from a press to its first repeat: C + 1 quarters of a second, C being bits 6 and 5 of the rate.
@@ -41,11 +41,6 @@ repeated k m types quiet =
     let type = getD types (k .repeating) 0 in
     pick (isDue k)
     (pick (mayRepeat (m .set) (k .repeating) type)
-    (record {
-      held = k .held;
-      queue = pick quiet (queueOf (sends k m type (k .repeating) Repeat)) (k .queue);
-      repeating = k .repeating;
-      clock = intervalOf (m .rate);
-    })
+    (withRepeat (withQueue k (pick quiet (queueOf (sends k m type (k .repeating) Repeat)) (k .queue))) (k .repeating) (intervalOf (m .rate)))
     (withRepeat k 0 0))
     k

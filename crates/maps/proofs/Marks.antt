@@ -11,6 +11,8 @@ use lib.Dec.{eqb}
 use lib.ListN.{length, getD, set, drop, replicate, drop-of-length-le}
 use lib.Seq.{drop-cons, set-getD, getD-set-same, getD-set-other}
 use Rattle.basics.specs.Choice.{either}
+use Rattle.basics.proofs.Cases.{either-true, either-false}
+use Rattle.basics.proofs.Zeros.{zeros-at}
 use Rattle.maps.specs.Maps.{isIn, hasDouble}
 
 -- A key has its mark.
@@ -27,15 +29,10 @@ unfoldable pub toFind : List ℕ → List ℕ → Bool
 toFind seen ks = either (anyMarked seen ks) (hasDouble ks)
 
 -- Where no key has its mark.
-no-mark : (n k : ℕ) → _≡_ {A = ℕ} (getD (replicate n 0) k 0) 0
-no-mark zero k = refl
-no-mark (suc n) zero = refl
-no-mark (suc n) (suc k) = no-mark n k
-
 none-marked : (n : ℕ) (ks : List ℕ) → anyMarked (replicate n 0) ks ≡ false
 unfolding anyMarked
 none-marked n [] = refl
-none-marked n (k ∷ ks) = rw (no-mark n k) (none-marked n ks)
+none-marked n (k ∷ ks) = rw (zeros-at n k) (none-marked n ks)
 
 -- A key that gets its mark: some key of a list has its mark then if it did, or if the list has this one.
 mark : (seen : List ℕ) (k : ℕ) → k < length seen → (k ≡ 0 → ⊥) → (ks : List ℕ)
@@ -88,19 +85,11 @@ module _ (l seen : List ℕ) (p : ℕ) (double : Bool) (i : hasDouble l ≡ eith
     turn = i ∙ rw (add-one, drop-cons l p 0, ← e, next seen k b z)
 
     pub double-met : (getD seen k 0 ≡ 0 → ⊥) → r ≡ true → hasDouble l ≡ either r (toFind (set seen k k) (drop (p + 1) l))
-    double-met n f = rw f (turn ∙ rw (ne-eqb (getD seen k 0) 0 n) (always double))
-      where
-        always : (a : Bool) → either a true ≡ true
-        always true = refl
-        always false = refl
+    double-met n f = rw f (turn ∙ rw (ne-eqb (getD seen k 0) 0 n) (either-true double))
 
     pub double-not-met : getD seen k 0 ≡ 0 → r ≡ double → hasDouble l ≡ either r (toFind (set seen k k) (drop (p + 1) l))
     double-not-met n f = rw f (turn ∙ rw (eq-eqb (getD seen k 0) 0 n))
 
   pub double-end : length l ≤ p → double ≡ hasDouble l
   unfolding toFind anyMarked hasDouble
-  double-end h = sym (i ∙ rw drop-of-length-le (only double))
-    where
-      only : (a : Bool) → either a false ≡ a
-      only true = refl
-      only false = refl
+  double-end h = sym (i ∙ rw drop-of-length-le (either-false double))

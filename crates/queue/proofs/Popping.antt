@@ -1,19 +1,16 @@
 -- Popping on the array: every byte moved one place to the front makes the queue without its oldest byte. Assumes nothing.
 use mathlib.Core.Path.{_≡_, refl, sym, ap, ap₂, _∙_}
 use mathlib.Core.Bool.{true}
-use mathlib.Core.List.{List, [], _∷_, _++_, append-assoc}
+use mathlib.Core.List.{List, [], _∷_, _++_}
 use Prim.Native.Nat.{ℕ, zero, suc, _+_, _-_, _≤_, _<_}
 use native.Mathlib.Nat.{le-antisymm}
 use native.Mathlib.Numerals.{add-one}
 use native.Mathlib.Omega.{arith}
-use lib.Dec.{leb}
-use lib.ListN.{length, take, drop, set, getD, replicate, replicate-append-replicate}
-use Rattle.basics.specs.Lists.{allUpTo}
-use Rattle.basics.proofs.Flags.{right-of-both}
-use Rattle.basics.proofs.Limits.{up-to-at}
+use lib.ListN.{length, take, drop, set, getD}
 use Rattle.queue.specs.declared.Queue.{Queue}
 use Rattle.queue.specs.Queues.{queueWith, waiting, queueOf, tidy}
-use Rattle.queue.proofs.Meaning.{tidy-is, tidy-short, length-waiting}
+use Rattle.queue.proofs.Places.{zero-behind, popped-bytes, popped-count}
+use Rattle.queue.proofs.Meaning.{tidy-is}
 
 -- The first i places have what stood one place behind them, the others what they had.
 unfoldable pub moved : List ℕ → ℕ → List ℕ
@@ -42,29 +39,10 @@ moved-all [] k e = absurd (omega arith)
 moved-all (x ∷ []) (suc k) e = absurd (omega arith)
 moved-all (x ∷ y ∷ b) zero e = absurd (omega arith)
 
-zero-more : (n : ℕ) → _≡_ {A = List ℕ} (replicate n 0 ++ 0 ∷ []) (replicate (n + 1) 0)
-zero-more n = replicate-append-replicate n 1 0
-
-without-oldest : (l : List ℕ) → 1 ≤ length l → length l ≤ 16 → queueWith (drop 1 (queueOf l .bytes) ++ 0 ∷ []) (length l - 1) ≡ queueOf (drop 1 l)
-unfolding queueOf
-without-oldest [] h k = absurd (omega arith)
-without-oldest (x ∷ l) h k =
-    let zeros : 16 - suc (length l) + 1 ≡ 16 - length l = omega arith in
-    let bytes : l ++ replicate (16 - suc (length l)) 0 ++ 0 ∷ [] ≡ l ++ replicate (16 - length l) 0 = rw (append-assoc, zero-more, zeros) in
-    ap₂ queueWith bytes (omega arith)
-
 -- Behind the bytes that wait stand zeros.
-none-over : (b : List ℕ) (n i : ℕ) → allUpTo 0 (drop n b) ≡ true → n ≤ i → getD b i 0 ≤ 0
-none-over b zero i e h = up-to-at 0 b i e
-none-over [] (suc n) i e h = omega arith
-none-over (x ∷ b) (suc n) zero e h = absurd (omega arith)
-none-over (x ∷ b) (suc n) (suc i) e h = none-over b n i e (omega arith)
-
 pub zero-past : (q : Queue) → tidy q ≡ true → (i : ℕ) → q .length ≤ i → 0 ≡ getD (q .bytes) i 0
 unfolding tidy
-zero-past q t i h =
-    let clear : allUpTo 0 (drop (q .length) (q .bytes)) ≡ true = right-of-both (leb (q .length) 16) _ t in
-    omega (arith, none-over (q .bytes) (q .length) i clear h)
+zero-past q t = zero-behind 16 (q .bytes) (q .length) t
 
 module _ (q : Queue) (t : tidy q ≡ true) (places : length (q .bytes) ≡ 16) where
   pub popped-empty : q .length ≡ 0 → q ≡ queueOf (drop 1 (waiting q))
@@ -75,10 +53,9 @@ module _ (q : Queue) (t : tidy q ≡ true) (places : length (q .bytes) ≡ 16) w
 
   pub popped-by-moving : (b : List ℕ) (i : ℕ) → (q .length ≡ 0 → ⊥) → i ≤ 15 → 15 ≤ i → b ≡ moved (q .bytes) i
       → queueWith (set b 15 0) (q .length - 1) ≡ queueOf (drop 1 (waiting q))
-  unfolding queueOf
+  unfolding queueOf waiting tidy
   popped-by-moving b i some low high e =
-      let count : length (waiting q) ≡ q .length = length-waiting q t places in
       let all : b ≡ moved (q .bytes) 15 = e ∙ ap (λ (n : ℕ). moved (q .bytes) n) (le-antisymm low high) in
-      ap (λ (a : List ℕ). queueWith a (q .length - 1)) (ap (λ (a : List ℕ). set a 15 0) all ∙ moved-all (q .bytes) 15 places)
-      ∙ ap (λ (x : Queue). queueWith (drop 1 (x .bytes) ++ 0 ∷ []) (x .length - 1)) (tidy-is q places t)
-      ∙ without-oldest (waiting q) (omega arith) (omega (arith, tidy-short q t))
+      let bytes = ap (λ (a : List ℕ). set a 15 0) all ∙ moved-all (q .bytes) 15 places in
+      let waits : 1 ≤ q .length = omega arith in
+      ap₂ queueWith (bytes ∙ popped-bytes 16 (q .bytes) (q .length) t places waits) (popped-count 16 (q .bytes) (q .length) t places waits)

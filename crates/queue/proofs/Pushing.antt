@@ -48,6 +48,14 @@ marked mark l h =
     let count : length (lastReplaced mark l) ≡ length l = length-lastReplaced mark l in
     ap₂ queueWith (rw count (set-last mark (length l - 1) l _ (omega arith))) (sym count)
 
+-- The mark over the last byte of a queue in range.
+pub marked-last : (q : Queue) → tidy q ≡ true → length (q .bytes) ≡ 16 → (mark : ℕ) → 1 ≤ q .length
+    → queueWith (set (q .bytes) (q .length - 1) mark) (q .length) ≡ queueOf (lastReplaced mark (waiting q))
+unfolding queueOf
+marked-last q t places mark h =
+    let count : length (waiting q) ≡ q .length = length-waiting q t places in
+    ap (λ (x : Queue). queueWith (set (x .bytes) (x .length - 1) mark) (x .length)) (tidy-is q places t) ∙ marked mark (waiting q) (omega (arith, count))
+
 module _ (q : Queue) (t : tidy q ≡ true) (places : length (q .bytes) ≡ 16)
     (s : Sequence) (short : s .length ≤ 8) (places-s : length (s .bytes) ≡ 8) (mark : ℕ) where
   count : length (waiting q) ≡ q .length
@@ -71,20 +79,9 @@ module _ (q : Queue) (t : tidy q ≡ true) (places : length (q .bytes) ≡ 16)
   -- There is no room, so a byte waits, and the mark is put over the last one.
   pub pushed-by-marking : 16 < q .length + s .length
       → queueWith (set (q .bytes) (q .length - 1) mark) (q .length) ≡ queueOf (pushedTo mark (waiting q) (contents s))
-  unfolding queueOf
   pushed-by-marking h =
       let full : hasRoom (waiting q) (length (contents s)) ≡ false = rw (count, count-s) (lt-leb _ _ h) in
-      ap (λ (x : Queue). queueWith (set (x .bytes) (x .length - 1) mark) (x .length)) (tidy-is q places t)
-      ∙ marked mark (waiting q) (omega (arith, count))
-      ∙ ap queueOf (sym (pushed-nothing mark (waiting q) (contents s) full))
-
--- The mark alone.
-pub marked-last : (q : Queue) → tidy q ≡ true → length (q .bytes) ≡ 16 → (mark : ℕ) → 1 ≤ q .length
-    → queueWith (set (q .bytes) (q .length - 1) mark) (q .length) ≡ queueOf (lastReplaced mark (waiting q))
-unfolding queueOf
-marked-last q t places mark h =
-    let count : length (waiting q) ≡ q .length = length-waiting q t places in
-    ap (λ (x : Queue). queueWith (set (x .bytes) (x .length - 1) mark) (x .length)) (tidy-is q places t) ∙ marked mark (waiting q) (omega (arith, count))
+      marked-last q t places mark (omega arith) ∙ ap queueOf (sym (pushed-nothing mark (waiting q) (contents s) full))
 
 -- Pushed onto an empty queue, a sequence waits alone.
 pub pushed-alone : (q : Queue) (s : Sequence) (mark : ℕ) → q ≡ queueOf [] → s .length ≤ 8 → length (s .bytes) ≡ 8

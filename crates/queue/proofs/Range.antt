@@ -4,15 +4,16 @@ use mathlib.Core.Bool.{true}
 use mathlib.Core.List.{List}
 use Prim.Native.Nat.{ℕ, _≤_}
 use native.Mathlib.Omega.{arith}
-use lib.ListN.{length, drop, length-drop}
+use lib.ListN.{length, drop, length-take, length-drop}
 use Rattle.queue.specs.declared.Queue.{Queue}
 use Rattle.queue.specs.Queues.{waiting, queueOf, tidy, pushedTo}
-use Rattle.queue.proofs.Meaning.{tidy-short, length-waiting, tidy-queueOf}
+use Rattle.queue.proofs.Meaning.{tidy-short, tidy-queueOf}
 use Rattle.queue.proofs.Room.{pushed-short}
 
-module _ (q : Queue) (t : tidy q ≡ true) (places : length (q .bytes) ≡ 16) where
+module _ (q : Queue) (t : tidy q ≡ true) where
   waiting-short : length (waiting q) ≤ 16
-  waiting-short = rw (length-waiting q t places) (tidy-short q t)
+  unfolding waiting
+  waiting-short = omega (arith, length-take (q .length) (q .bytes), tidy-short q t)
 
   pub pushed-tidy : (mark : ℕ) (s : List ℕ) → tidy (queueOf (pushedTo mark (waiting q) s)) ≡ true
   pushed-tidy mark s = tidy-queueOf _ (pushed-short mark (waiting q) s waiting-short)

@@ -1,27 +1,23 @@
 -- Tests joined one after another, as the code joins them, are the definitions of the ranges. Assumes nothing.
 use mathlib.Core.Path.{_≡_}
 use mathlib.Core.Bool.{Bool, _&&_, _||_, and-assoc}
-use mathlib.Core.List.{List}
-use Prim.Native.Nat.{ℕ}
 use lib.Dec.{leb, eqb}
 use Rattle.basics.specs.Choice.{between}
 use Rattle.basics.specs.Lists.{allUpTo}
 use Rattle.queue.specs.Queues.{tidy}
 use Rattle.queue.specs.Replies.{tidyReplies}
 use Rattle.record.specs.declared.Mode.{Mode}
-use Rattle.record.specs.declared.Outgoing.{Outgoing}
+use Rattle.record.specs.declared.Keys.{Keys}
 use Rattle.record.specs.declared.Dock.{Dock}
 use Rattle.record.specs.Range.{goodMode, goodKeys, takesValue, inRange}
-use Rattle.record.specs.Apart.{keysWith}
 
 pub joined-mode : (m : Mode) → (leb 1 (m .set) && leb (m .set) 3 && leb (m .rate) 127 && leb (m .indicators) 7) ≡ goodMode m
 unfolding goodMode
 joined-mode m = and-assoc (between 1 3 (m .set)) (leb (m .rate) 127) (leb (m .indicators) 7)
 
-pub joined-keys : (o : Outgoing) (held : List ℕ) (queue : Bool) → queue ≡ tidy (o .queue)
-    → (queue && leb (o .repeating) 104 && leb (o .clock) 240) ≡ goodKeys (keysWith held o)
+pub joined-keys : (k : Keys) (queue : Bool) → queue ≡ tidy (k .queue) → (queue && leb (k .repeating) 104 && leb (k .clock) 240) ≡ goodKeys k
 unfolding goodKeys
-joined-keys o held queue e = rw (← e) (simp and-assoc)
+joined-keys k queue e = rw (← e) (simp and-assoc)
 
 pub joined-range : (d : Dock) (map keys mode replies value : Bool) → map ≡ allUpTo 104 (d .map) → keys ≡ goodKeys (d .keys)
     → mode ≡ goodMode (d .mode) → replies ≡ tidyReplies (d .replies) → value ≡ takesValue (d .waiting)

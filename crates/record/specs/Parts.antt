@@ -55,9 +55,12 @@ withHandover d handover = dock (d .map) (d .contacts) (d .keys) (d .types) (d .m
 abbrev pub withGiven : Dock → ℕ → Dock
 withGiven d given = dock (d .map) (d .contacts) (d .keys) (d .types) (d .mode) (d .replies) (d .scanning) (d .waiting) (d .handover) given
 
--- The keys with another queue, and with another key repeating.
+-- The keys by their four parts, with another queue, and with another key repeating.
+abbrev pub keys : List ℕ → Queue → ℕ → ℕ → Keys
+keys held queue repeating clock = record { held = held; queue = queue; repeating = repeating; clock = clock }
+
 abbrev pub withQueue : Keys → Queue → Keys
-withQueue k queue = record { held = k .held; queue = queue; repeating = k .repeating; clock = k .clock }
+withQueue k queue = keys (k .held) queue (k .repeating) (k .clock)
 
 abbrev pub withRepeat : Keys → ℕ → ℕ → Keys
-withRepeat k key clock = record { held = k .held; queue = k .queue; repeating = key; clock = clock }
+withRepeat k key clock = keys (k .held) (k .queue) key clock

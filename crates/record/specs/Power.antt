@@ -3,6 +3,7 @@ use Prim.Native.Nat.{ℕ, zero, suc}
 use mathlib.Core.Bool.{true, false}
 use mathlib.Core.List.{List, [], _∷_, _++_, map}
 use lib.ListN.{replicate}
+use Rattle.contacts.specs.Counts.{unseen}
 use Rattle.keys.specs.declared.Row.{Row}
 use Rattle.keys.specs.Keys.{rows, noRow}
 use Rattle.queue.specs.declared.replies.Replies.{Replies}
@@ -28,7 +29,7 @@ unfoldable pub freshWith : List ℕ → Replies → Dock
 freshWith map replies =
     record {
       map = map;
-      contacts = record { closed = replicate 18 0; counts = replicate 144 0 };
+      contacts = unseen;
       keys = record { held = replicate 144 0; queue = queueOf []; repeating = 0; clock = 0 };
       types = defaultTypes;
       mode = record { set = 2; rate = 0x2b; indicators = 0 };

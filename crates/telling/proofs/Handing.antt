@@ -20,11 +20,11 @@ use Rattle.keying.specs.Sending.{flagOf, sends}
 use Rattle.keying.specs.Moves.{releasedWith, released}
 use Rattle.keying.specs.Handover.{isHeld, canLeave, handedFrom}
 use Rattle.keying.proofs.Sent.{sends-short}
-use Rattle.keying.proofs.Kept.{picked, handed-keeps}
+use Rattle.keying.proofs.Kept.{handed-keeps}
 use Rattle.record.specs.declared.Mode.{Mode}
 use Rattle.record.specs.declared.Keys.{Keys}
 use Rattle.telling.specs.Agreeing.{Outside, Lowest, heldTo, heldCount}
-use Rattle.basics.proofs.Cases.{by-cases, neither-first, neither-second}
+use Rattle.basics.proofs.Cases.{by-cases, picked, neither-first, neither-second}
 
 -- A flag that is taken down is down, also where there is no place for one,
 pub down-own : (held : List ℕ) (key : ℕ) → getD (set held key 0) key 0 ≡ 0
@@ -220,10 +220,7 @@ module _ (m : Mode) (types : List ℕ) where
           (λ on. rw (passed-still k key (none key (omega arith) (omega arith))) (later (omega arith)))
           (λ up stuck. absurd (held-up k key up (none key (omega arith) (omega arith))))
 
-  -- So no handover adds to the held keys, and one that has room takes one away.
-  pub handed-no-more : (n key : ℕ) (k : Keys) → heldCount (handedFrom n key k m types .keys .held) ≤ heldCount (k .held)
-  handed-no-more n key k = no-more-held (k .held) _ (handed-any n key k) 104
-
+  -- So a handover that has room takes one away from the held keys.
   pub handed-lowers : (n key : ℕ) (k : Keys) (l : Lowest (k .held) key (key + n)) → 1 ≤ key → key + n ≤ 105
       → canLeave k m types (l .key) ≡ true → heldCount (handedFrom n key k m types .keys .held) < heldCount (k .held)
   handed-lowers n key k l some most leaves =

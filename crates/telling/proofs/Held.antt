@@ -21,6 +21,7 @@ use Rattle.record.specs.declared.Mode.{Mode}
 use Rattle.record.specs.declared.Keys.{Keys}
 use Rattle.telling.specs.Agreeing.{Agrees, Once}
 use Rattle.basics.proofs.Cases.{by-cases}
+use Rattle.basics.proofs.Zeros.{zeros-at}
 
 -- There are 144 flags, whatever turns.
 abbrev Flags : Keys → Type 0
@@ -117,12 +118,6 @@ none-agree map closed held none at-rest =
       mapped = λ p h some. none (getD map p 0) ∙ sym (at-rest p h);
       unmapped = λ key alone. none key;
     }
-
--- Of zeros each is 0, those behind the end too.
-pub zeros-at : (n i : ℕ) → getD {A = ℕ} (replicate n 0) i 0 ≡ 0
-zeros-at zero i = refl
-zeros-at (suc n) zero = refl
-zeros-at (suc n) (suc i) = zeros-at n i
 
 -- In columns of zeros every contact is open.
 pub contact-open : (n position : ℕ) → contact (replicate n 0) position ≡ 0

@@ -14,11 +14,10 @@ use Rattle.keying.specs.Sending.{flagOf, sends}
 use Rattle.keying.specs.Moves.{releasedWith, released}
 use Rattle.keying.specs.Handover.{isHeld, canLeave, handedFrom}
 use Rattle.keying.proofs.Sent.{sends-short}
-use Rattle.keying.proofs.Kept.{picked}
 use Rattle.record.specs.declared.Mode.{Mode}
 use Rattle.record.specs.declared.Keys.{Keys}
 use Rattle.telling.specs.Agreeing.{heldTo, heldCount}
-use Rattle.basics.proofs.Cases.{by-cases}
+use Rattle.basics.proofs.Cases.{by-cases, picked}
 use Rattle.telling.proofs.Handing.{down-own, down-any, held-up, fewer-held}
 use Rattle.telling.proofs.Whole.{released-whole}
 

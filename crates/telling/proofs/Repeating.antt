@@ -12,14 +12,14 @@ use lib.Seq.{getD-set-same, getD-set-other}
 use Rattle.basics.specs.Lists.{allUpTo}
 use Rattle.basics.proofs.Limits.{up-to-at}
 use Rattle.codes.specs.Codes.{mayRepeat}
-use Rattle.keying.specs.Repeat.{ticked, isDue, repeated}
+use Rattle.keying.specs.Repeat.{isDue, repeated}
 use Rattle.keying.specs.Moves.{pressed, releasedWith, released, turnsTo}
 use Rattle.keying.specs.Handover.{handedFrom}
-use Rattle.keying.proofs.Kept.{picked, handed-keeps, turns-keep}
+use Rattle.keying.proofs.Kept.{handed-keeps, turns-keep}
 use Rattle.record.specs.declared.Mode.{Mode}
 use Rattle.record.specs.declared.Keys.{Keys}
 use Rattle.telling.specs.Agreeing.{Outside, Repeats}
-use Rattle.basics.proofs.Cases.{by-cases}
+use Rattle.basics.proofs.Cases.{by-cases, picked}
 use Rattle.telling.proofs.Held.{pressed-flags, released-flags, turns-other}
 
 abbrev Kept : Keys → Type 0
@@ -70,7 +70,7 @@ module _ (m : Mode) where
       (picked Repeats (mayRepeat (m .set) (k .repeating) (getD types (k .repeating) 0)) _ _ some (inl refl))
       some
 
-  -- Turned contacts and a repeat put no flag up where there is no key; of a handover see Handing.
+  -- Turned contacts put no flag up where there is no key; of a handover see Handing.
   pub turns-outside : (types map : List ℕ) → allUpTo 104 map ≡ true → (n : ℕ) (was is : List ℕ) (k : Keys)
       → Outside (k .held) → Outside (turnsTo n m types map was is k .held)
   turns-outside types map limit n was is k out key h =
@@ -78,13 +78,3 @@ module _ (m : Mode) where
       (λ p b some e.
       ⊎-elim (λ z. some (e ∙ z)) (λ o. let most = up-to-at 104 map p limit in absurd (omega arith)) h)
       ∙ out key h
-
-  pub repeated-outside : (k : Keys) (types : List ℕ) (quiet : Bool) → Outside (k .held) → Outside (repeated k m types quiet .held)
-  repeated-outside k types quiet out = rw (repeated-held k types quiet) out
-
--- A tick changes nothing but the clock.
-pub ticked-repeats : (k : Keys) → Repeats k → Repeats (ticked k)
-ticked-repeats k some = some
-
-pub ticked-outside : (k : Keys) → Outside (k .held) → Outside (ticked k .held)
-ticked-outside k out = out

@@ -26,12 +26,11 @@ use Rattle.keying.specs.Sending.{modifiersOf, numLock, sends}
 use Rattle.keying.specs.Moves.{pressed, releasedWith, released, turnsTo}
 use Rattle.keying.specs.Repeat.{ticked, isDue, repeated}
 use Rattle.keying.specs.Handover.{isHeld, canLeave, handedFrom}
-use Rattle.keying.proofs.Kept.{picked}
 use Rattle.terminal.specs.Terminals.{Terminal, terminal, hears, hearsAll}
 use Rattle.terminal.proofs.Hearing.{hears-more, hears-first}
 use Rattle.terminal.proofs.Heard.{press-heard, release-heard, repeat-heard}
 use Rattle.telling.specs.Overruns.{overrunsAt, overrunsTo}
-use Rattle.basics.proofs.Cases.{by-cases, neither-first, neither-second}
+use Rattle.basics.proofs.Cases.{by-cases, picked, neither-first, neither-second}
 use Rattle.telling.proofs.Turning.{Fits, each-turn}
 use Rattle.telling.proofs.Whole.{pressed-whole, released-whole}
 
@@ -54,10 +53,6 @@ pub byte-told : (s : ℕ) (t : Terminal) (k : Keys) → 1 ≤ length (waiting (k
     → Told s (hears s t (getD (waiting (k .queue)) 0 0)) (withQueue k (queueOf (drop 1 (waiting (k .queue)))))
 byte-told s t k some p =
     record { told = rw waiting-queueOf (hears-first s t (waiting (k .queue)) some ∙ p .told) }
-
--- Of the mode it knows the set alone.
-pub told-mode : (m n : Mode) → m .set ≡ n .set → (t : Terminal) (k : Keys) → Told (m .set) t k → Told (n .set) t k
-told-mode m n e t k p = rw e at p
 
 pub ticked-told : (s : ℕ) (t : Terminal) (k : Keys) → Told s t k → Told s t (ticked k)
 ticked-told s t k p = record { told = p .told }

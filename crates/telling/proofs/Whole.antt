@@ -1,71 +1,30 @@
--- What waits after keys moved: never more than 16 bytes; and where the queue does not overrun, what waited before with whole sequences
--- behind it. For every set. Assumes nothing.
+-- What waits after keys moved, where the queue does not overrun: what waited before with whole sequences behind it. For every set.
+-- Assumes nothing.
 use mathlib.Core.Path.{_≡_, refl, sym, ap, _∙_}
-use mathlib.Core.Bool.{Bool, true, false, not}
+use mathlib.Core.Bool.{true, false, not}
 use mathlib.Core.List.{List, [], _++_, append-nil, append-assoc}
-use Prim.Native.Nat.{ℕ, zero, suc, _≤_}
-use native.Mathlib.Omega.{arith}
+use Prim.Native.Nat.{ℕ, zero, suc}
 use lib.ListN.{length, getD}
 use Rattle.basics.specs.Choice.{pick, either}
-use Rattle.basics.specs.Lists.{allUpTo}
-use Rattle.codes.specs.declared.Action.the-variants.{Press, Release, Repeat}
-use Rattle.codes.specs.Codes.{mayRepeat}
+use Rattle.codes.specs.declared.Action.the-variants.{Press, Release}
 use Rattle.keys.specs.Keys.{markOf}
 use Rattle.queue.specs.declared.Queue.{Queue}
 use Rattle.queue.specs.Queues.{waiting, hasRoom}
 use Rattle.queue.proofs.Meaning.{waiting-queueOf}
-use Rattle.queue.proofs.Room.{pushed-whole, pushed-short}
+use Rattle.queue.proofs.Room.{pushed-whole}
 use Rattle.record.specs.declared.Mode.{Mode}
 use Rattle.record.specs.declared.Keys.{Keys}
 use Rattle.keying.specs.declared.Handed.{Handed}
 use Rattle.keying.specs.Sending.{sends, queuedOf}
 use Rattle.keying.specs.Moves.{pressed, releasedWith, released, turnsTo}
-use Rattle.keying.specs.Repeat.{isDue, repeated}
 use Rattle.keying.specs.Handover.{isHeld, canLeave, handedFrom}
-use Rattle.keying.proofs.Sent.{sends-short}
-use Rattle.keying.proofs.Kept.{picked, turns-keep, handed-keeps}
 use Rattle.telling.specs.Overruns.{overrunsAt, overrunsTo}
 use Rattle.telling.specs.Queued.{turnBytes, handedBytes}
 use Rattle.basics.proofs.Cases.{two-by-cases, neither-first, neither-second}
 use Rattle.telling.proofs.Turning.{Fits, each-turn}
 
--- At most 16 bytes wait.
-abbrev pub Short : Keys → Type 0
-Short k = length (waiting (k .queue)) ≤ 16
-
-queued-short : (q : Queue) (m : Mode) (bytes : List ℕ) → length (waiting q) ≤ 16 → length (waiting (queuedOf q m bytes)) ≤ 16
-unfolding queuedOf
-queued-short q m bytes h = rw waiting-queueOf (pushed-short (markOf (m .set)) (waiting q) bytes h)
-
-module _ (m : Mode) where
-  pub pressed-short : (k : Keys) (type key : ℕ) → Short k → Short (pressed k m type key)
-  unfolding pressed
-  pressed-short k type key h = queued-short (k .queue) m (sends k m type key Press) h
-
-  pub released-short : (k : Keys) (type key : ℕ) → Short k → Short (released k m type key)
-  unfolding released releasedWith
-  released-short k type key h = queued-short (k .queue) m (sends k m type key Release) h
-
-  pub turns-short : (types map : List ℕ) → allUpTo 104 map ≡ true → (n : ℕ) (was is : List ℕ) (k : Keys)
-      → Short k → Short (turnsTo n m types map was is k)
-  turns-short = turns-keep Short m released-short (λ k type key high h. pressed-short k type key h)
-
-  pub handed-short : (n key : ℕ) (k : Keys) (types : List ℕ) → Short k → Short (handedFrom n key k m types .keys)
-  handed-short = handed-keeps Short m released-short
-
-  pub repeated-short : (k : Keys) (types : List ℕ) (quiet : Bool) → Short k → Short (repeated k m types quiet)
-  unfolding repeated
-  repeated-short k types quiet h =
-      let type = getD types (k .repeating) 0 in
-      let alone = sends-short k m type (k .repeating) Repeat in
-      picked Short (isDue k) _ _
-      (picked Short (mayRepeat (m .set) (k .repeating) type) _ _
-      (picked (λ (q : Queue). length (waiting q) ≤ 16) quiet _ _ (rw waiting-queueOf (omega (arith, alone))) h)
-      h)
-      h
-
 -- Bytes that have room are queued whole, behind those that wait.
-pub queued-whole : (q : Queue) (m : Mode) (bytes : List ℕ) → hasRoom (waiting q) (length bytes) ≡ true
+queued-whole : (q : Queue) (m : Mode) (bytes : List ℕ) → hasRoom (waiting q) (length bytes) ≡ true
     → waiting (queuedOf q m bytes) ≡ waiting q ++ bytes
 unfolding queuedOf
 queued-whole q m bytes room = waiting-queueOf _ ∙ pushed-whole (markOf (m .set)) (waiting q) bytes room

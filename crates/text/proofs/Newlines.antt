@@ -11,18 +11,15 @@ use borrow.Author.Tests.{eq-eqb, ne-eqb, eqb-true, eqb-false, ltb-true, ltb-fals
 use lib.Dec.{eqb, ltb}
 use lib.ListN.{length, getD, drop, length-drop, drop-of-length-le, List·getD-eq-default}
 use lib.Seq.{drop-cons}
-use Rattle.basics.specs.Choice.{pick, either}
+use Rattle.basics.proofs.Cases.{picked, either-true, either-false, neither-first, neither-second}
 use Rattle.basics.proofs.Flags.{left-of-both, right-of-both}
 use Rattle.text.specs.Lines.{newlineAmong, endsAfter, lineLength, lineEnd}
 
 line-length-within : (l : List ℕ) → lineLength l ≤ length l
 unfolding lineLength
 line-length-within [] = omega arith
-line-length-within (c ∷ cs) = go (eqb c 10) (line-length-within cs)
-  where
-    go : (t : Bool) → lineLength cs ≤ length cs → pick t 0 (suc (lineLength cs)) ≤ suc (length cs)
-    go true h = omega arith
-    go false h = omega arith
+line-length-within (c ∷ cs) =
+    picked (λ (n : ℕ). n ≤ suc (length cs)) (eqb c 10) 0 (suc (lineLength cs)) (omega arith) (omega (arith, line-length-within cs))
 
 -- A line ends where it begins or later,
 pub line-end-after : (text : List ℕ) (at : ℕ) → at ≤ lineEnd text at
@@ -69,19 +66,11 @@ among-none text at = refl
 module _ (text : List ℕ) (at i : ℕ) (found : Bool) (k : found ≡ newlineAmong text at i) where
   pub among-here : getD text (at + i) 0 ≡ 10 → (r : Bool) → r ≡ true → r ≡ newlineAmong text at (i + 1)
   unfolding newlineAmong
-  among-here e r f = rw (f, add-one, eq-eqb (getD text (at + i) 0) 10 e) (always (newlineAmong text at i))
-    where
-      always : (a : Bool) → true ≡ either a true
-      always true = refl
-      always false = refl
+  among-here e r f = rw (f, add-one, eq-eqb (getD text (at + i) 0) 10 e) (sym (either-true (newlineAmong text at i)))
 
   pub among-not-here : (getD text (at + i) 0 ≡ 10 → ⊥) → (r : Bool) → r ≡ found → r ≡ newlineAmong text at (i + 1)
   unfolding newlineAmong
-  among-not-here n r f = f ∙ k ∙ rw (add-one, ne-eqb (getD text (at + i) 0) 10 n) (only (newlineAmong text at i))
-    where
-      only : (a : Bool) → a ≡ either a false
-      only true = refl
-      only false = refl
+  among-not-here n r f = f ∙ k ∙ rw (add-one, ne-eqb (getD text (at + i) 0) 10 n) (sym (either-false (newlineAmong text at i)))
 
   pub among-end : (n : ℕ) → i ≤ n → n ≤ i → found ≡ newlineAmong text at n
   among-end n a b = k ∙ ap (newlineAmong text at) (le-antisymm a b)
@@ -92,16 +81,8 @@ unfolding newlineAmong
 among-past text at zero h e = rw add-zero
 among-past text at (suc n) h e =
     rw (add-suc, ← add-one)
-    (among-past text at n (omega arith) (first (newlineAmong text at n) (eqb (getD text (at + n) 0) 10) e)
-    ∙ line-end-past text (at + n) (omega arith) (eqb-false _ _ (second (newlineAmong text at n) (eqb (getD text (at + n) 0) 10) e)))
-  where
-    first : (a b : Bool) → either a b ≡ false → a ≡ false
-    first true b f = f
-    first false b f = refl
-
-    second : (a b : Bool) → either a b ≡ false → b ≡ false
-    second true b f = cc
-    second false b f = f
+    (among-past text at n (omega arith) (neither-first (newlineAmong text at n) (eqb (getD text (at + n) 0) 10) e)
+    ∙ line-end-past text (at + n) (omega arith) (eqb-false _ _ (neither-second (newlineAmong text at n) (eqb (getD text (at + n) 0) 10) e)))
 
 -- The test of a length. The line does not end after n characters where the text has no more,
 module _ (text : List ℕ) (at n : ℕ) where

@@ -5,18 +5,19 @@ use Prim.Native.Nat.{_-_, _≤_}
 use native.Mathlib.Omega.{arith}
 use borrow.Author.Needs.{needs}
 use lib.ListN.{length}
+use Rattle.queue.specs.Queues.{tidy}
 use Rattle.queue.proofs.Checking.{Seen, seen-none, seen-more, seen-all}
 use Rattle.queue.proofs.is_tidy.Statement.{statement}
 use Rattle.queue.proofs.is_tidy.Tie as tie
 
 abbrev Inv-loop : tie.InvT-loop
-Inv-loop q length good₀ i₀ good i = (i ≤ 16) × Seen q good i
+Inv-loop q length good₀ i₀ good i = (i ≤ 16) × Seen 16 (q .bytes) (q .length) good i
 
 abbrev μ-loop : tie.MeasureT-loop
 μ-loop q length good₀ i₀ good i = 16 - i
 
 loop-holds : tie.Need-loop-holds Inv-loop μ-loop
-loop-holds c = (omega arith, seen-none _)
+loop-holds c = (omega arith, seen-none _ _ _)
 
 element-copy-out-good : tie.Need-element-copy-out-good Inv-loop μ-loop
 element-copy-out-good c = omega arith
@@ -32,13 +33,14 @@ loop-again c =
     let q = c .before .before .before .args .t1 in
     let l = c .before .before .loop in
     let places : length (q .bytes) ≡ 16 = search needs in
-    (omega arith, seen-more q (l .i) (omega arith) (l .good) (l .inv .1))
+    (omega arith, seen-more 16 (q .bytes) (q .length) (l .i) (omega arith) (l .good) (l .inv .1))
 
 returns : tie.Need-returns Inv-loop μ-loop
+unfolding tidy
 returns c =
     let q = c .before .before .args .t1 in
     let places : length (q .bytes) ≡ 16 = search needs in
-    seen-all q places _ (c .before .loop .i) (omega arith) (c .before .loop .inv .1)
+    seen-all 16 (q .bytes) (q .length) places _ (c .before .loop .i) (omega arith) (c .before .loop .inv .1)
 
 pub is-tidy-spec : {M : Type 1} → statement M
 is-tidy-spec =

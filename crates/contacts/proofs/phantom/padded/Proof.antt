@@ -4,7 +4,8 @@ use Prim.Native.Nat.{ℕ, _-_, _≤_, _<_}
 use mathlib.Core.Path.{_≡_, refl}
 use native.Mathlib.Omega.{arith}
 use lib.ListN.{length, getD, length-set}
-use Rattle.contacts.proofs.Distances.{open-columns, front-more, behind-open, front-all}
+use Rattle.basics.proofs.Zeros.{zeros-at}
+use Rattle.contacts.proofs.Distances.{front-more, behind-open, front-all}
 use Rattle.contacts.proofs.phantom.padded.Statement.{statement}
 use Rattle.contacts.proofs.phantom.padded.Tie as tie
 
@@ -16,7 +17,7 @@ abbrev μ-loop : tie.MeasureT-loop
 μ-loop scan columns₀ i₀ columns i = 18 - i
 
 loop-holds : tie.Need-loop-holds Inv-loop μ-loop
-loop-holds c = (omega arith, refl, (λ k h. omega arith), (λ k h. open-columns 36 k))
+loop-holds c = (omega arith, refl, (λ k h. omega arith), (λ k h. zeros-at 36 k))
 
 shared-slice-read-columns : tie.Need-shared-slice-read-columns Inv-loop μ-loop
 shared-slice-read-columns c = omega arith

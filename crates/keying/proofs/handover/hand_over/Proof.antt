@@ -9,8 +9,8 @@ use borrow.Author.Tests.{not-true, not-false}
 use Rattle.codes.specs.declared.Action.the-variants.{Release}
 use Rattle.queue.proofs.Meaning.{tidy-short}
 use Rattle.record.specs.Apart.{keysWith}
+use Rattle.record.proofs.Ranges.{good-keys-queue}
 use Rattle.keying.specs.Sending.{sends}
-use Rattle.keying.proofs.Good.{parts}
 use Rattle.keying.proofs.Sent.{sequence-short}
 use Rattle.keying.proofs.Leaving.{Going, begins, passes, leaves, waits, ends}
 use Rattle.keying.proofs.handover.hand_over.Statement.{statement}
@@ -45,7 +45,7 @@ unfolding sends
 fits-requires c κs =
     let l = c .before .before .before .before .before .before .before in
     let k = keysWith (l .loop .held) (l .loop .e) in
-    (tidy-short _ (parts k (l .loop .inv .1 .good) .queue), sequence-short k (l .before .args .m) _ _ Release _ (c .before .bytes-of .ensures))
+    (tidy-short _ (good-keys-queue k (l .loop .inv .1 .good)), sequence-short k (l .before .args .m) _ _ Release _ (c .before .bytes-of .ensures))
 
 returns : tie.Need-returns Inv-loop μ-loop
 unfolding sends

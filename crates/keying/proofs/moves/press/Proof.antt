@@ -3,9 +3,10 @@ use Prim.Native.Nat.{_≤_}
 use native.Mathlib.Omega.{arith}
 use borrow.Author.Needs.{needs}
 use Rattle.queue.specs.Queues.{queueWith}
+use Rattle.record.proofs.Ranges.{good-mode-rate, good-keys-queue}
 use Rattle.keying.specs.Sending.{sends}
 use Rattle.keying.specs.Moves.{keysTold}
-use Rattle.keying.proofs.Good.{parts, rate-small, queued-short}
+use Rattle.keying.proofs.Good.{queued-short}
 use Rattle.keying.proofs.Changes.{pressed-repeats, pressed-once}
 use Rattle.keying.proofs.moves.press.Statement.{statement}
 use Rattle.keying.proofs.moves.press.Tie as tie
@@ -17,14 +18,14 @@ send-press-requires : tie.Need-send-press-requires
 send-press-requires c κs =
     let s = c .before .before .before in
     let a = s .args in
-    (parts (keysTold (a .held .now) (a .bytes .now) (a .t)) (s .pre .0) .queue, s .pre .2, s .pre .4)
+    (good-keys-queue (keysTold (a .held .now) (a .bytes .now) (a .t)) (s .pre .0), s .pre .2, s .pre .4)
 
 cast-e : tie.Need-cast-e
 cast-e c =
     let s = c .before .before .before .before in
     let a = s .args in
     let k = keysTold (a .held .now) (a .bytes .now) (a .t) in
-    let few : c .send-press .result ≤ 16 = queued-short (queueWith _ (c .send-press .result)) (k .queue) _ _ (c .send-press .ensures) (parts k (s .pre .0) .queue) in
+    let few : c .send-press .result ≤ 16 = queued-short (queueWith _ (c .send-press .result)) (k .queue) _ _ (c .send-press .ensures) (good-keys-queue k (s .pre .0)) in
     omega arith
 
 element-write-held : tie.Need-element-write-held
@@ -34,7 +35,7 @@ may-repeat-requires : tie.Need-may-repeat-requires
 may-repeat-requires c κs = search needs
 
 delay-of-requires : tie.Need-delay-of-requires
-delay-of-requires c κs = rate-small _ (c .before .before .before .before .before .before .pre .1)
+delay-of-requires c κs = good-mode-rate _ (c .before .before .before .before .before .before .pre .1)
 
 returns : tie.Need-returns
 unfolding sends

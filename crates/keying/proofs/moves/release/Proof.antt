@@ -3,9 +3,10 @@ use Prim.Native.Nat.{_≤_}
 use native.Mathlib.Omega.{arith}
 use borrow.Author.Needs.{needs}
 use Rattle.queue.specs.Queues.{queueWith}
+use Rattle.record.proofs.Ranges.{good-keys-queue}
 use Rattle.keying.specs.Sending.{sends}
 use Rattle.keying.specs.Moves.{keysTold}
-use Rattle.keying.proofs.Good.{parts, queued-short}
+use Rattle.keying.proofs.Good.{queued-short}
 use Rattle.keying.proofs.Changes.{released-repeats, released-only}
 use Rattle.keying.proofs.moves.release.Statement.{statement}
 use Rattle.keying.proofs.moves.release.Tie as tie
@@ -17,14 +18,14 @@ send-release-requires : tie.Need-send-release-requires
 send-release-requires c κs =
     let s = c .before .before .before in
     let a = s .args in
-    (parts (keysTold (a .held .now) (a .bytes .now) (a .t)) (s .pre .0) .queue, s .pre .2, s .pre .1, s .pre .4)
+    (good-keys-queue (keysTold (a .held .now) (a .bytes .now) (a .t)) (s .pre .0), s .pre .2, s .pre .1, s .pre .4)
 
 cast-e : tie.Need-cast-e
 cast-e c =
     let s = c .before .before .before .before in
     let a = s .args in
     let k = keysTold (a .held .now) (a .bytes .now) (a .t) in
-    let few : c .send-release .result ≤ 16 = queued-short (queueWith _ (c .send-release .result)) (k .queue) _ _ (c .send-release .ensures) (parts k (s .pre .0) .queue) in
+    let few : c .send-release .result ≤ 16 = queued-short (queueWith _ (c .send-release .result)) (k .queue) _ _ (c .send-release .ensures) (good-keys-queue k (s .pre .0)) in
     omega arith
 
 element-write-held : tie.Need-element-write-held

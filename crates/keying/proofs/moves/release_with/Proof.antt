@@ -3,15 +3,15 @@ use mathlib.Core.Path.{ap, _∙_}
 use borrow.Author.Needs.{needs}
 use Rattle.queue.specs.declared.Queue.{Queue}
 use Rattle.record.specs.Apart.{keysWith}
+use Rattle.record.proofs.Ranges.{good-keys-queue}
 use Rattle.keying.specs.Moves.{letGo, releasedWith}
-use Rattle.keying.proofs.Good.{parts}
 use Rattle.keying.proofs.moves.release_with.Statement.{statement}
 use Rattle.keying.proofs.moves.release_with.Tie as tie
 
 queued-requires : tie.Need-queued-requires
 queued-requires c κs =
     let a = c .before .args in
-    (parts (keysWith (a .held .now) (a .o)) (c .before .pre .0) .queue, c .before .pre .2)
+    (good-keys-queue (keysWith (a .held .now) (a .o)) (c .before .pre .0), c .before .pre .2)
 
 let-go-requires : tie.Need-let-go-requires
 let-go-requires c κs = search needs

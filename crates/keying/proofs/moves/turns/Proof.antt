@@ -10,9 +10,10 @@ use Rattle.queue.proofs.Meaning.{tidy-short}
 use Rattle.record.specs.declared.Keys.{Keys}
 use Rattle.record.specs.Apart.{keysWith}
 use Rattle.record.specs.Range.{goodKeys}
+use Rattle.record.proofs.Ranges.{good-keys-queue}
 use Rattle.keying.specs.Moves.{keysTold, turnsTo}
 use Rattle.keying.proofs.Changes.{told-same}
-use Rattle.keying.proofs.Good.{parts, turns-good}
+use Rattle.keying.proofs.Good.{turns-good}
 use Rattle.keying.proofs.Places.{turns-bytes}
 use Rattle.keying.proofs.Rows.{turns-none, column-stays, column-turns, turns-all}
 use Rattle.keying.proofs.moves.turns.Statement.{statement}
@@ -31,7 +32,7 @@ table-requires c κs = search needs
 cast-t14 : tie.Need-cast-t14 Inv-loop μ-loop
 cast-t14 c =
     let s = c .before .before .before .before in
-    omega (arith, tidy-short _ (parts (keysWith (s .args .held .now) (s .args .o)) (s .pre .0) .queue))
+    omega (arith, tidy-short _ (good-keys-queue (keysWith (s .args .held .now) (s .args .o)) (s .pre .0)))
 
 loop-holds : tie.Need-loop-holds Inv-loop μ-loop
 loop-holds c =

@@ -4,8 +4,8 @@ use borrow.Author.Needs.{needs}
 use borrow.Author.Tests.{not-true, not-false}
 use Rattle.codes.specs.declared.Action.the-variants.{Repeat}
 use Rattle.record.specs.Apart.{keysWith}
+use Rattle.record.proofs.Ranges.{good-keys-repeating}
 use Rattle.keying.specs.Sending.{sends}
-use Rattle.keying.proofs.Good.{parts}
 use Rattle.keying.proofs.Sent.{sequence-short}
 use Rattle.keying.proofs.Due.{repeats-none, repeats-later, repeats-no-more, repeats-lost, repeats-sent}
 use Rattle.keying.proofs.repeating.repeat.Statement.{statement}
@@ -27,7 +27,7 @@ cast-kind c = search needs
 element-copy-out-kind : tie.Need-element-copy-out-kind
 element-copy-out-kind c =
     let s = c .before .before .before in
-    omega (arith, parts (keysWith (s .args .held .now) (s .args .o)) (s .pre .0) .repeating)
+    omega (arith, good-keys-repeating (keysWith (s .args .held .now) (s .args .o)) (s .pre .0))
 
 may-repeat-requires : tie.Need-may-repeat-requires
 may-repeat-requires c κs = search needs

@@ -2,8 +2,8 @@
 use borrow.Author.Needs.{needs}
 use Rattle.codes.specs.declared.Action.the-variants.{Press}
 use Rattle.queue.specs.Queues.{queueWith}
+use Rattle.record.specs.Parts.{keys}
 use Rattle.keying.specs.Sending.{modifiersOf, numLock, sends}
-use Rattle.keying.proofs.Changes.{keys}
 use Rattle.keying.proofs.Sent.{sequence-short, sequence-is}
 use Rattle.keying.proofs.Silence.{press-some, full-marks, pushed-queues}
 use Rattle.keying.proofs.sending.send_press.Statement.{statement}

@@ -4,10 +4,10 @@ use native.Mathlib.Omega.{arith}
 use borrow.Author.Needs.{needs}
 use Rattle.codes.specs.declared.Action.the-variants.{Release}
 use Rattle.queue.specs.Queues.{queueWith}
+use Rattle.record.specs.Parts.{keys}
 use Rattle.queue.proofs.Meaning.{tidy-short}
 use Rattle.record.proofs.Ranges.{good-mode-set}
 use Rattle.keying.specs.Sending.{modifiersOf, numLock, sends}
-use Rattle.keying.proofs.Changes.{keys}
 use Rattle.keying.proofs.Sent.{sequence-short, sequence-is}
 use Rattle.keying.proofs.Silence.{release-none, release-long, little-room, too-long, nothing-queued, no-room-marks, pushed-queues}
 use Rattle.keying.proofs.sending.send_release.Statement.{statement}

@@ -1,24 +1,44 @@
--- `record::range::in_range` meets its contract: the parts of the record are looked at. Assumes nothing.
-use mathlib.Core.Path.{ap, _∙_}
+-- `record::range::in_range` meets its contract: its tests are those of the definition, in their order. Assumes nothing.
 use borrow.Author.Needs.{needs}
-use Rattle.record.specs.declared.Rest.{Rest}
-use Rattle.record.specs.Apart.{dockWith}
-use Rattle.record.specs.Range.{inRange}
+use Rattle.record.proofs.Joining.{joined-range}
 use Rattle.record.proofs.range.in_range.Statement.{statement}
 use Rattle.record.proofs.range.in_range.Tie as tie
 
-rest-of-requires : tie.Need-rest-of-requires
-rest-of-requires c κs = search needs
+all-up-to-requires : tie.Need-all-up-to-requires
+all-up-to-requires c κs = search needs
 
-parts-in-range-requires : tie.Need-parts-in-range-requires
-parts-in-range-requires c κs = search needs
+is-good-keys-requires : tie.Need-is-good-keys-requires
+is-good-keys-requires c κs = search needs
+
+is-good-mode-requires : tie.Need-is-good-mode-requires
+is-good-mode-requires c κs = search needs
+
+is-tidy-requires : tie.Need-is-tidy-requires
+is-tidy-requires c κs = search needs
+
+takes-value-requires : tie.Need-takes-value-requires
+takes-value-requires c κs = search needs
 
 returns : tie.Need-returns
 returns c =
-    let rest = c .before .before .before in
-    let d = rest .before .args .t1 in
-    c .parts-in-range .ensures (d .contacts .closed) (d .contacts .counts) (d .keys .held) (d .types)
-    ∙ ap (λ (r : Rest). inRange (dockWith (d .map) (d .contacts .closed) (d .contacts .counts) (d .keys .held) (d .types) r)) (rest .rest-of .ensures)
+    let replies = c .before in
+    let mode = replies .before in
+    let keys = mode .before in
+    let map = keys .before in
+    joined-range _ _ _ _ _ _
+    (map .all-up-to .ensures)
+    (keys .is-good-keys .ensures)
+    (mode .is-good-mode .ensures)
+    (replies .is-tidy .ensures)
+    (c .takes-value .ensures)
 
 pub in-range-spec : {M : Type 1} → statement M
-in-range-spec = tie.close (tie.spec rest-of-requires parts-in-range-requires returns)
+in-range-spec =
+    tie.close
+    (tie.spec
+    all-up-to-requires
+    is-good-keys-requires
+    is-good-mode-requires
+    is-tidy-requires
+    takes-value-requires
+    returns)

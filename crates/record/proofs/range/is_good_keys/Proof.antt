@@ -1,0 +1,14 @@
+-- `record::range::is_good_keys` meets its contract: its tests are those of the definition, in their order. Assumes nothing.
+use borrow.Author.Needs.{needs}
+use Rattle.record.proofs.Joining.{joined-keys}
+use Rattle.record.proofs.range.is_good_keys.Statement.{statement}
+use Rattle.record.proofs.range.is_good_keys.Tie as tie
+
+is-tidy-requires : tie.Need-is-tidy-requires
+is-tidy-requires c κs = search needs
+
+returns : tie.Need-returns
+returns c = joined-keys (c .before .before .before .before .args .k) _ (c .before .before .is-tidy .ensures)
+
+pub is-good-keys-spec : {M : Type 1} → statement M
+is-good-keys-spec = tie.close (tie.spec is-tidy-requires returns)
