@@ -4,9 +4,26 @@ use Prim.Native.Nat.{ℕ, zero, suc, _+_, _*_, _/_, _%_, _^_, _≤_, _<_}
 use native.Mathlib.Nat.{div-div-eq-div-mul, div-add-mod', add-comm, mul-le-mul-right, pow-suc}
 use native.Mathlib.Numerals.{add-one}
 use native.Mathlib.Omega.{arith}
-use lib.Bits.{bitOr, or-shifted-r}
+use lib.Bits.{bitOr, bitXor, or-shifted-r, xor-shr, xor-mod}
+use lib.Dec.{eqb}
 use Rattle.contacts.specs.Scans.{rowOf}
 use Rattle.contacts.specs.Counts.{packed}
+
+-- A row of the exclusive or of two bytes is that of their rows, and 0 exactly if they are the same.
+pub row-xor : (a b row : ℕ) → rowOf (bitXor a b) row ≡ bitXor (rowOf a row) (rowOf b row)
+row-xor a b row = ap (λ (n : ℕ). n % 2) (xor-shr a b row) ∙ xor-mod (a / 2 ^ row) (b / 2 ^ row) 1
+
+pub row-same : (a b row : ℕ) → eqb (rowOf (bitXor a b) row) 0 ≡ eqb (rowOf a row) (rowOf b row)
+row-same a b row = ap (λ (n : ℕ). eqb n 0) (row-xor a b row) ∙ bits (rowOf a row) (rowOf b row) (omega arith) (omega arith)
+  where
+    bits : (x y : ℕ) → x < 2 → y < 2 → eqb (bitXor x y) 0 ≡ eqb x y
+    bits zero zero h l = refl
+    bits zero (suc zero) h l = refl
+    bits (suc zero) zero h l = refl
+    bits (suc zero) (suc zero) h l = refl
+    bits zero (suc (suc y)) h l = absurd (omega arith)
+    bits (suc zero) (suc (suc y)) h l = absurd (omega arith)
+    bits (suc (suc x)) y h l = absurd (omega arith)
 
 -- The packed byte of each row is that row.
 pub packed-row : (f : ℕ → ℕ) → ((i : ℕ) → f i < 2) → (r : ℕ) → r < 8 → rowOf (packed f) r ≡ f r

@@ -9,11 +9,11 @@ ghost use Rattle.contacts.specs.Counts.{contacts, nextCount, nextClosed,
 // So many counted scans in a row against a contact, and the next one turns it.
 const NEARLY: u8 = 2;
 
-// One contact, seen and closed each 0 or its bit: its count after this scan,
-fn next_count(seen: u8, closed: u8, count: u8) -> u8
-    ensures { λ r. ⌜ r ≡ nextCount seen closed count ⌝ }
+// A contact that is shown `otherwise` than it counts (its bit, else 0): its count after this scan,
+fn next_count(otherwise: u8, count: u8) -> u8
+    ensures { λ r. ⌜ r ≡ nextCount otherwise 0 count ⌝ }
 {
-    if seen == closed {
+    if otherwise == 0 {
         return 0;
     }
     if count < NEARLY {
@@ -22,17 +22,11 @@ fn next_count(seen: u8, closed: u8, count: u8) -> u8
     0
 }
 
-// and what it counts as.
-fn next_closed(seen: u8, closed: u8, count: u8) -> u8
-    ensures { λ r. ⌜ r ≡ nextClosed seen closed count ⌝ }
+// and its bit if it turns.
+fn turning(otherwise: u8, count: u8) -> u8
+    ensures { λ r. ⌜ r ≡ nextClosed otherwise 0 count ⌝ }
 {
-    if seen == closed {
-        return closed;
-    }
-    if count < NEARLY {
-        return closed;
-    }
-    seen
+    if count < NEARLY { 0 } else { otherwise }
 }
 
 // A column that shows what counts: no row of scans is under way in it any more.
@@ -56,18 +50,16 @@ fn stirred(counts: &mut [u8; 144], column: usize, seen: u8, closed: u8) -> u8
     ensures counts { λ r. ⌜ now (counts .exit) ≡ columnCounts column seen closed (now (counts .entry)) ⌝ }
 {
     let first = 8 * column;
-    let mut sum: u8 = 0;
+    let mut turned: u8 = 0;
     let mut r: usize = 0;
     while r < 8 {
-        let bit = 1u8 << r;
-        let s = seen & bit;
-        let d = closed & bit;
-        let n = counts[first + r];
-        counts[first + r] = next_count(s, d, n);
-        sum = sum | next_closed(s, d, n);
+        let otherwise = (seen ^ closed) & (1u8 << r);
+        let count = counts[first + r];
+        counts[first + r] = next_count(otherwise, count);
+        turned = turned | turning(otherwise, count);
         r += 1;
     }
-    sum
+    closed ^ turned
 }
 
 // The scan shows what counts.
