@@ -4,14 +4,14 @@ use mathlib.Core.Bool.{Bool, true, false}
 use mathlib.Core.List.{List}
 use Prim.Native.Nat.{ℕ, _+_, _*_, _≤_, _<_, _^_}
 use native.Mathlib.Omega.{arith}
-use borrow.Author.Tests.{leb-true, eq-eqb, ne-eqb}
+use borrow.Author.Tests.{leb-true, ne-eqb}
 use lib.Dec.{leb, ltb, eqb}
 use lib.ListN.{length}
-use lib.IntN.{ℤ, pos, negsuc}
+use lib.IntN.{pos}
 use mir.Syntax.{w32}
 use mir.Val.{toZ}
 use mir.ValLaws.{toZ-pos}
-use Rattle.basics.specs.Choice.{pick, both, between}
+use Rattle.basics.specs.Choice.{pick, both}
 use Rattle.encoder.specs.declared.Encoded.{Encoded}
 use Rattle.encoder.specs.declared.Encoded.the-variants.{Written, BadChoice, ShortOutput}
 use Rattle.encoder.specs.Encoder.{actionOf, allowed, asked, encodedOf}
@@ -48,7 +48,7 @@ module _ (set key event type mods lock : ℕ) (out : List ℕ) (r : Encoded) (e 
   counted count w = as-it-is count (omega (arith, count-small count w)) ∙ encoded (Written count) w
 
 -- There are seven events, numbered from 0.
-pub event-small : (e : Event) → eventNumber e ≤ 6
+event-small : (e : Event) → eventNumber e ≤ 6
 event-small More = omega arith
 event-small (Pressed key) = omega arith
 event-small (Released key) = omega arith
@@ -60,7 +60,7 @@ event-small BadState = omega arith
 event-small BadSet = omega arith
 
 -- The state that an accepted byte leaves is one of the fifteen.
-pub next-small : (set state byte : ℕ) → byte < 256 → numberOf (answerOf set state byte .event) ≡ 0 → answerOf set state byte .state ≤ 14
+next-small : (set state byte : ℕ) → byte < 256 → numberOf (answerOf set state byte .event) ≡ 0 → answerOf set state byte .state ≤ 14
 unfolding answerOf
 next-small set state byte b e = go (leb state 14) refl (leb 1 set) refl (leb set 3) refl e
   where
@@ -74,8 +74,10 @@ next-small set state byte b e = go (leb state 14) refl (leb 1 set) refl (leb set
     go true p false q z r n = let w : _≡_ {A = ℕ} 7 0 = n in omega arith
     go false p y q z r n = let w : _≡_ {A = ℕ} 9 0 = n in omega arith
 
-pub next-of : (set state byte : ℕ) (r : Answer) (n : ℕ) → r ≡ answerOf set state byte → byte < 256 → n ≡ numberOf (r .event) → n ≡ 0 → r .state ≤ 14
-next-of set state byte r n e b f z = rw e (next-small set state byte b (rw e at (sym f ∙ z)))
+-- What an accepted byte gives is small enough to share an i32.
+pub small : (set state byte : ℕ) (r : Answer) (n x : ℕ) → r ≡ answerOf set state byte → byte < 256
+    → n ≡ numberOf (r .event) → n ≡ 0 → x ≡ eventNumber (r .event) → (x ≤ 6) × (r .state ≤ 14)
+small set state byte r n x e b f z u = (rw u (event-small (r .event)), rw e (next-small set state byte b (rw e at (sym f ∙ z))))
 
 -- An answer is the three numbers in one,
 pub taken : (a r : Answer) (n x k : ℕ) → r ≡ a → n ≡ numberOf (r .event) → n ≡ 0 → x ≡ eventNumber (r .event) → k ≡ keyOf (r .event)
@@ -88,7 +90,7 @@ pub refused : (a r : Answer) (n m : ℕ) → r ≡ a → n ≡ numberOf (r .even
 unfolding answerNumber
 refused a r n m e f z g = rw (← e, ← f, ne-eqb n 0 z, g)
 
--- A refusal that is not 9 is 7.
+-- A refusal that is not 9 is 7, first of the event's own number.
 else-7 : (e : Event) → (numberOf e ≡ 0 → ⊥) → (numberOf e ≡ 9 → ⊥) → numberOf e ≡ 7
 else-7 More x y = absurd (x refl)
 else-7 (Pressed key) x y = absurd (x refl)
@@ -100,5 +102,5 @@ else-7 Unknown x y = absurd (x refl)
 else-7 BadState x y = absurd (y refl)
 else-7 BadSet x y = refl
 
-pub rest : (e : Event) (n : ℕ) → n ≡ numberOf e → (n ≡ 0 → ⊥) → (n ≡ 9 → ⊥) → n ≡ 7
-rest e n f x y = f ∙ else-7 e (λ z. x (f ∙ z)) (λ z. y (f ∙ z))
+pub not-9-is-7 : (e : Event) (n : ℕ) → n ≡ numberOf e → (n ≡ 0 → ⊥) → (n ≡ 9 → ⊥) → n ≡ 7
+not-9-is-7 e n f x y = f ∙ else-7 e (λ z. x (f ∙ z)) (λ z. y (f ∙ z))

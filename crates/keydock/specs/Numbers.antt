@@ -20,13 +20,13 @@ abbrev pub minus : ℕ → ℤ
 minus zero = pos zero
 minus (suc n) = negsuc n
 
--- A frame unpacked: its byte, -256 if it is broken.
+-- A frame unpacked: its byte, -256 if it is broken, -5 if the number is over 2047.
 abbrev pub unpackedNumber : Unpacked → ℤ
 unpackedNumber (Byte byte) = pos byte
 unpackedNumber Broken = minus 256
 unpackedNumber TooLarge = minus (frames.numberOf TooLarge)
 
--- A key encoded: how many bytes were written.
+-- A key encoded: how many bytes were written, or minus the refusal.
 abbrev pub encodedNumber : Encoded → ℤ
 encodedNumber (Written count) = pos count
 encodedNumber BadChoice = minus (encoder.numberOf BadChoice)

@@ -17,7 +17,7 @@ pub extern "C" fn keydock_pack_frame(byte: u8) -> u16
     frames::pack(byte)
 }
 
-// The byte of a frame, or -256 for a broken one, or -5.
+// The byte of a frame; -256 for a broken one, -5 for a number over 2047.
 #[no_mangle]
 pub extern "C" fn keydock_unpack_frame(frame: u32) -> i32
     ensures { λ r. ⌜ r ≡ unpackedNumber (unpackedOf frame) ⌝ }
@@ -30,7 +30,7 @@ pub extern "C" fn keydock_unpack_frame(frame: u32) -> i32
     }
 }
 
-// A key's bytes into the lent output: how many, or -7 or -6.
+// A key's bytes into the lent output: how many; -7 for a choice out of its range, else -6 for an output under 8 bytes.
 #[no_mangle]
 pub extern "C" fn keydock_key_codes(
     set: u32,
@@ -53,7 +53,7 @@ pub extern "C" fn keydock_key_codes(
 }
 
 // The number of an event.
-fn number_of(event: Event) -> u32
+fn event_number(event: Event) -> u32
     ensures { λ r. ⌜ r ≡ eventNumber event ⌝ }
 {
     match event {
@@ -103,7 +103,7 @@ fn refusal_of(event: Event) -> u8
     }
 }
 
-// One key byte read: event + 256 * key + 65536 * next state, or -9 or -7.
+// One key byte read: event + 256 * key + 65536 * next state; -9 for a state over 14, else -7 for a set that is not 1 to 3.
 #[no_mangle]
 pub extern "C" fn keydock_read_byte(set: u32, state: u32, byte: u8) -> i32
     ensures { λ r. ⌜ r ≡ answerNumber (answerOf set state byte) ⌝ }
@@ -113,7 +113,7 @@ pub extern "C" fn keydock_read_byte(set: u32, state: u32, byte: u8) -> i32
     let refusal = refusal_of(event);
     if refusal == 0 {
         let key = key_of(event) as u32;
-        return (number_of(event) + 256 * key + 65536 * answer.state) as i32;
+        return (event_number(event) + 256 * key + 65536 * answer.state) as i32;
     }
     if refusal == 9 {
         return -9;

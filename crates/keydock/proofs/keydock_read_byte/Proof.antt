@@ -1,10 +1,17 @@
 -- `keydock_read_byte` meets its contract: event, key and next state are small enough to share an i32. Assumes nothing.
-use Prim.Native.Nat.{_+_, _*_, _<_, _^_}
+use Prim.Native.Nat.{_≤_}
 use native.Mathlib.Omega.{arith}
 use borrow.Author.Needs.{needs}
-use Rattle.keydock.proofs.Numbers.{as-it-is, event-small, next-of, taken, refused, rest}
+use Rattle.keydock.proofs.Numbers.{small, taken, refused, not-9-is-7}
 use Rattle.keydock.proofs.keydock_read_byte.Statement.{statement}
 use Rattle.keydock.proofs.keydock_read_byte.Tie as tie
+
+-- Once the event has its number: it is at most 6, and the next state at most 14.
+sizes : (c : tie.After-event-number) → (c .event-number .result ≤ 6) × (c .before .before .before .before .read .result .state ≤ 14)
+sizes c =
+    let told = c .before .before .before in
+    small _ _ _ _ _ _ (told .before .read .ensures) (omega arith) (told .refusal-of .ensures) (c .before .before .if1 .taken)
+    (c .event-number .ensures)
 
 read-requires : tie.Need-read-requires
 read-requires c κs = search needs
@@ -18,34 +25,40 @@ key-of-requires c κs = search needs
 cast-key : tie.Need-cast-key
 cast-key c = search needs
 
-number-of-requires : tie.Need-number-of-requires
-number-of-requires c κs = search needs
+event-number-requires : tie.Need-event-number-requires
+event-number-requires c κs = search needs
 
 mul-result : tie.Need-mul-result
 mul-result c = search needs
 
 add-result : tie.Need-add-result
-add-result c = omega (arith, event-small (c .before .before .before .before .read .result .event), c .number-of .ensures)
+add-result c = omega (arith, sizes c)
 
 mul-result-2 : tie.Need-mul-result-2
-mul-result-2 c = omega (arith, next-of _ _ _ _ _ (c .before .before .before .before .before .read .ensures) (omega arith) (c .before .before .before .before .refusal-of .ensures) (c .before .before .before .if1 .taken), event-small (c .before .before .before .before .before .read .result .event), c .before .number-of .ensures)
+mul-result-2 c = omega (arith, sizes (c .before))
 
 add-result-2 : tie.Need-add-result-2
-add-result-2 c = omega (arith, next-of _ _ _ _ _ (c .before .before .before .before .before .read .ensures) (omega arith) (c .before .before .before .before .refusal-of .ensures) (c .before .before .before .if1 .taken), event-small (c .before .before .before .before .before .read .result .event), c .before .number-of .ensures)
+add-result-2 c = omega (arith, sizes (c .before))
 
 cast-result : tie.Need-cast-result
-cast-result c = record { sfits = omega (arith, next-of _ _ _ _ _ (c .before .before .before .before .before .read .ensures) (omega arith) (c .before .before .before .before .refusal-of .ensures) (c .before .before .before .if1 .taken), event-small (c .before .before .before .before .before .read .result .event), c .before .number-of .ensures) }
+cast-result c = record { sfits = omega (arith, sizes (c .before)) }
 
 returns : tie.Need-returns
 returns c =
-    let h : c .before .number-of .result + 256 * c .before .before .key-of .result + 65536 * c .before .before .before .before .before .read .result .state < 2 ^ 31 = omega (arith, next-of _ _ _ _ _ (c .before .before .before .before .before .read .ensures) (omega arith) (c .before .before .before .before .refusal-of .ensures) (c .before .before .before .if1 .taken), event-small (c .before .before .before .before .before .read .result .event), c .before .number-of .ensures) in
-    taken _ _ _ _ _ (c .before .before .before .before .before .read .ensures) (c .before .before .before .before .refusal-of .ensures) (c .before .before .before .if1 .taken) (c .before .number-of .ensures) (c .before .before .key-of .ensures) h
+    let told = c .before .before .before .before in
+    taken _ _ _ _ _ (told .before .read .ensures) (told .refusal-of .ensures) (c .before .before .before .if1 .taken)
+    (c .before .event-number .ensures) (c .before .before .key-of .ensures) (omega (arith, sizes (c .before)))
 
 returns-2 : tie.Need-returns-2
-returns-2 c = refused _ _ _ 9 (c .before .before .before .read .ensures) (c .before .before .refusal-of .ensures) (c .before .if1 .left) (c .if2 .taken)
+returns-2 c =
+    let told = c .before .before in
+    refused _ _ _ 9 (told .before .read .ensures) (told .refusal-of .ensures) (c .before .if1 .left) (c .if2 .taken)
 
 returns-3 : tie.Need-returns-3
-returns-3 c = refused _ _ _ 7 (c .before .before .before .read .ensures) (c .before .before .refusal-of .ensures) (c .before .if1 .left) (rest (c .before .before .before .read .result .event) _ (c .before .before .refusal-of .ensures) (c .before .if1 .left) (c .if2 .left))
+returns-3 c =
+    let told = c .before .before in
+    refused _ _ _ 7 (told .before .read .ensures) (told .refusal-of .ensures) (c .before .if1 .left)
+    (not-9-is-7 (told .before .read .result .event) _ (told .refusal-of .ensures) (c .before .if1 .left) (c .if2 .left))
 
 pub keydock-read-byte-spec : {M : Type 1} → statement M
 keydock-read-byte-spec =
@@ -55,7 +68,7 @@ keydock-read-byte-spec =
     refusal-of-requires
     key-of-requires
     cast-key
-    number-of-requires
+    event-number-requires
     mul-result
     add-result
     mul-result-2
