@@ -1,4 +1,4 @@
--- Demand 3 speaks of moments when nothing waits, and they come: after any calls of such a run 955 reads or more bring one, and then the
+-- Demand 3 speaks of moments when nothing waits, and they come: after any calls of such a run 851 reads or more bring one, and then the
 -- keys that the terminal finds down are exactly those that the counted scans say are held, Pause apart. Assumes nothing.
 use mathlib.Core.Path.{_≡_, refl, ap, _∙_}
 use mathlib.Core.Bool.{Bool, true, not}
@@ -63,7 +63,7 @@ reads-say-the-same (suc n) w key =
     reads-say-the-same n (next w Read) key ∙ ap (λ (map : List ℕ). saysHeld map (w .scans) key) (read-map (w .dock))
 
 module _ (earlier calls : List Call) (begins : mayBegin (afterCalls woken earlier .dock) ≡ true)
-    (calm : undisturbed (beginning (afterCalls woken earlier)) calls ≡ true) (n : ℕ) (enough : 955 ≤ n) where
+    (calm : undisturbed (beginning (afterCalls woken earlier)) calls ≡ true) (n : ℕ) (enough : 851 ≤ n) where
   start : World
   start = beginning (afterCalls woken earlier)
 

@@ -1,5 +1,5 @@
 -- Reads make the dock quiet, and end a handover: while something waits each read leaves less to be read, and where nothing waits it
--- changes nothing, so that from any moment since power-on 955 reads or more leave nothing waiting. Assumes nothing.
+-- changes nothing, so that from any moment since power-on 851 reads or more leave nothing waiting. Assumes nothing.
 use mathlib.Core.Path.{_≡_, refl, ap}
 use mathlib.Core.Bool.{Bool, true, false}
 use mathlib.Core.List.{List, []}
@@ -30,7 +30,7 @@ use Rattle.agreement.proofs.Taken.{some-wait}
 use Rattle.agreement.proofs.AnyCalls.{any-sound}
 use Rattle.agreement.proofs.Bounds.{Steady, keys-counted, replies-counted, keys-few, replies-few, next-steady, reached-steady}
 
--- What is still to be read: the replies, the key bytes, and nine for each held key, more than its release.
+-- What is still to be read: the replies, the key bytes, and eight for each held key, the most that its release can have.
 abbrev pub stillToRead : Dock → ℕ
 stillToRead d = length (waitingReplies (d .replies)) + toRead (d .keys)
 
@@ -115,16 +115,16 @@ reads-all (suc n) w s most = go (quiet (w .dock)) refl (reads-all n (next w Read
     go true e later = stays-quiet (suc n) w s e
     go false e later = later (omega (arith, read-brings-on w s e))
 
--- 955: three replies, 16 key bytes, and nine for each of 104 keys.
-pub enough-reads : (w : World) → Steady w → (n : ℕ) → 955 ≤ n → quiet (afterCalls w (replicate n Read) .dock) ≡ true
+-- 851: three replies, 16 key bytes, and eight for each of 104 keys.
+pub enough-reads : (w : World) → Steady w → (n : ℕ) → 851 ≤ n → quiet (afterCalls w (replicate n Read) .dock) ≡ true
 enough-reads w s n enough = reads-all n w s (omega (arith, keys-few w (s .sound), replies-few w s, held-most 104 (w .dock .keys .held)))
 
 -- After any calls,
-pub reads-quieten : (calls : List Call) (n : ℕ) → 955 ≤ n → quiet (afterCalls (afterCalls woken calls) (replicate n Read) .dock) ≡ true
+pub reads-quieten : (calls : List Call) (n : ℕ) → 851 ≤ n → quiet (afterCalls (afterCalls woken calls) (replicate n Read) .dock) ≡ true
 reads-quieten calls n enough = enough-reads (afterCalls woken calls) (reached-steady calls) n enough
 
 -- so that no handover is left open.
-pub handover-ends : (calls : List Call) (n : ℕ) → 955 ≤ n → afterCalls (afterCalls woken calls) (replicate n Read) .dock .handover ≡ false
+pub handover-ends : (calls : List Call) (n : ℕ) → 851 ≤ n → afterCalls (afterCalls woken calls) (replicate n Read) .dock .handover ≡ false
 handover-ends calls n enough =
     let end = afterCalls (afterCalls woken calls) (replicate n Read) in
     let sound = any-sound (replicate n Read) (afterCalls woken calls) (reached-steady calls .sound) in

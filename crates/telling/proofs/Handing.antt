@@ -1,5 +1,5 @@
--- A handover: flags only go down, a finished one leaves none up, an unfinished one leaves a held key whose release has no room,
--- and each step that has room takes at least one flag down. Assumes nothing.
+-- A handover: flags only go down, a finished one leaves none up, and an unfinished one has more than half the queue waiting.
+-- Assumes nothing.
 use mathlib.Core.Path.{_≡_, refl, _∙_}
 use mathlib.Core.Logic.{_⊎_, inl, inr, ⊎-elim}
 use mathlib.Core.Bool.{Bool, true, false, not}
@@ -7,7 +7,7 @@ use mathlib.Core.List.{List, [], _∷_}
 use Prim.Native.Nat.{ℕ, zero, suc, _+_, _≤_, _<_}
 use native.Mathlib.Decide.{ℕ-discrete}
 use native.Mathlib.Omega.{arith}
-use borrow.Author.Tests.{eqb-true, eqb-false, ne-eqb, not-true, not-false, le-leb, leb-true, leb-false}
+use borrow.Author.Tests.{eqb-true, eqb-false, ne-eqb, not-true, not-false, leb-true, leb-false}
 use lib.Dec.{eqb, leb}
 use lib.ListN.{length, getD, set}
 use lib.Seq.{getD-set-other}
@@ -23,8 +23,8 @@ use Rattle.keying.proofs.Sent.{sends-short}
 use Rattle.keying.proofs.Kept.{handed-keeps}
 use Rattle.record.specs.declared.Mode.{Mode}
 use Rattle.record.specs.declared.Keys.{Keys}
-use Rattle.telling.specs.Agreeing.{Outside, Lowest, heldTo, heldCount}
-use Rattle.basics.proofs.Cases.{by-cases, picked, neither-first, neither-second}
+use Rattle.telling.specs.Agreeing.{Outside, heldTo}
+use Rattle.basics.proofs.Cases.{by-cases, neither-first, neither-second}
 
 -- A flag that is taken down is down, also where there is no place for one,
 pub down-own : (held : List ℕ) (key : ℕ) → getD (set held key 0) key 0 ≡ 0
@@ -97,17 +97,8 @@ module _ (m : Mode) (types : List ℕ) where
   passed-own k key =
       by-cases (λ (r : Keys). getD (r .held) key 0 ≡ 0) (isHeld k key) _ _ (λ h. down-own (k .held) key) (not-held-down k key)
 
-  passed-other : (k : Keys) (key j : ℕ) → (j ≡ key → ⊥) → getD (passed k key .held) j 0 ≡ getD (k .held) j 0
-  unfolding passed released releasedWith
-  passed-other k key j other =
-      picked (λ (r : Keys). getD (r .held) j 0 ≡ getD (k .held) j 0) (isHeld k key) _ _ (getD-set-other (k .held) key j 0 0 other) refl
-
   passed-gone : (n key : ℕ) (k : Keys) (j : ℕ) → j ≡ key → getD (handedFrom n (suc key) (passed k key) m types .keys .held) j 0 ≡ 0
   passed-gone n key k j e = rw e (handed-down n (suc key) (passed k key) key (passed-own k key))
-
-  passed-still : (k : Keys) (key : ℕ) → getD (k .held) key 0 ≡ 0 → passed k key ≡ k
-  unfolding passed
-  passed-still k key down = rw down
 
   -- What holds of a handover holds if it holds where it goes on and where it stops.
   module _ (P : Handed → Type 0) (n key : ℕ) (k : Keys) where
@@ -146,19 +137,7 @@ module _ (m : Mode) (types : List ℕ) where
       go true e = handed-finished 104 1 k done (suc j) (omega arith) (omega (arith, leb-true (suc j) 104 e))
       go false e = handed-down 104 1 k (suc j) (out (suc j) (inr (leb-false (suc j) 104 e)))
 
-  -- No flag changes but those of the keys that it is about.
-  pub handed-others : (n key : ℕ) (k : Keys) (j : ℕ) → (j < key) ⊎ (key + n ≤ j)
-      → getD (handedFrom n key k m types .keys .held) j 0 ≡ getD (k .held) j 0
-  unfolding handedFrom
-  handed-others zero key k j out = refl
-  handed-others (suc n) key k j out =
-      let other : j ≡ key → ⊥ = λ e. ⊎-elim (λ l. omega arith) (λ l. omega arith) out in
-      let further : (j < suc key) ⊎ (suc key + n ≤ j) = ⊎-elim (λ l. inl (omega arith)) (λ l. inr (omega arith)) out in
-      step (λ (h : Handed). getD (h .keys .held) j 0 ≡ getD (k .held) j 0) n key k
-      (λ on. handed-others n (suc key) (passed k key) j further ∙ passed-other k key j other)
-      (λ up stuck. refl)
-
-  -- Where it stops there is no room: more than half the queue waits,
+  -- Where it stops there is no room: more than half the queue waits.
   pub handed-waits : (n key : ℕ) (k : Keys) → handedFrom n key k m types .unfinished ≡ true
       → 9 ≤ length (waiting (handedFrom n key k m types .keys .queue))
   unfolding handedFrom
@@ -170,65 +149,3 @@ module _ (m : Mode) (types : List ℕ) where
       let bytes = sends k m (getD types key 0) key Release in
       no-room-waits 0 (waiting (k .queue)) bytes stuck (sends-short k m (getD types key 0) key Release))
       e
-
-  -- and some key is still held: the lowest of them is next.
-  pub handed-still-held : (n key : ℕ) (k : Keys) → handedFrom n key k m types .unfinished ≡ true
-      → Lowest (handedFrom n key k m types .keys .held) key (key + n)
-  unfolding handedFrom
-  handed-still-held zero key k e = let no : _≡_ {A = ℕ} 0 1 = cc in absurd (omega arith)
-  handed-still-held (suc n) key k e =
-      step (λ (h : Handed). h .unfinished ≡ true → Lowest (h .keys .held) key (key + suc n)) n key k
-      (λ on e.
-      let l = handed-still-held n (suc key) (passed k key) e in
-      record {
-        key = l .key;
-        from = omega (arith, l .from);
-        below = omega (arith, l .below);
-        up = l .up;
-        none = λ j low high. go j (l .none) low high (ℕ-discrete j key);
-      })
-      (λ up stuck e. record {
-        key = key;
-        from = omega arith;
-        below = omega arith;
-        up = held-up k key up;
-        none = λ j low high. absurd (omega arith);
-      })
-      e
-    where
-      go : (j : ℕ) {upper : ℕ}
-          → ((i : ℕ) → suc key ≤ i → i < upper → getD (handedFrom n (suc key) (passed k key) m types .keys .held) i 0 ≡ 0)
-          → key ≤ j → j < upper → Dec (j ≡ key) → getD (handedFrom n (suc key) (passed k key) m types .keys .held) j 0 ≡ 0
-      go j later low high (yes e) = passed-gone n key k j e
-      go j later low high (no e) = later j (omega arith) high
-
-  -- A key that can leave, with none held before it, leaves.
-  pub handed-leaves : (n key : ℕ) (k : Keys) (j : ℕ) → key ≤ j → j < key + n → ((i : ℕ) → key ≤ i → i < j → getD (k .held) i 0 ≡ 0)
-      → canLeave k m types j ≡ true → getD (handedFrom n key k m types .keys .held) j 0 ≡ 0
-  handed-leaves zero key k j low high none leaves = absurd (omega arith)
-  handed-leaves (suc n) key k j low high none leaves =
-      go (ℕ-discrete j key) (λ l. handed-leaves n (suc key) k j l (omega arith) (λ i h. none i (omega arith)) leaves)
-    where
-      go : Dec (j ≡ key) → (suc key ≤ j → getD (handedFrom n (suc key) k m types .keys .held) j 0 ≡ 0)
-          → getD (handedFrom (suc n) key k m types .keys .held) j 0 ≡ 0
-      go (yes e) later =
-          step (λ (h : Handed). getD (h .keys .held) j 0 ≡ 0) n key k
-          (λ on. passed-gone n key k j e)
-          (λ up stuck. cc)
-      go (no e) later =
-          step (λ (h : Handed). getD (h .keys .held) j 0 ≡ 0) n key k
-          (λ on. rw (passed-still k key (none key (omega arith) (omega arith))) (later (omega arith)))
-          (λ up stuck. absurd (held-up k key up (none key (omega arith) (omega arith))))
-
-  -- So a handover that has room takes one away from the held keys.
-  pub handed-lowers : (n key : ℕ) (k : Keys) (l : Lowest (k .held) key (key + n)) → 1 ≤ key → key + n ≤ 105
-      → canLeave k m types (l .key) ≡ true → heldCount (handedFrom n key k m types .keys .held) < heldCount (k .held)
-  handed-lowers n key k l some most leaves =
-      fewer-held (k .held) _ (handed-any n key k) (l .key) (omega (arith, l .from)) (l .up)
-      (handed-leaves n key k (l .key) (l .from) (l .below) (l .none) leaves) 104 (omega (arith, l .below))
-
-  -- It has room for any key's release while at most half the queue waits.
-  pub handed-room : (k : Keys) (key : ℕ) → length (waiting (k .queue)) ≤ 8 → canLeave k m types key ≡ true
-  handed-room k key h =
-      let bytes = sends k m (getD types key 0) key Release in
-      le-leb (length (waiting (k .queue)) + length bytes) 16 (omega (arith, sends-short k m (getD types key 0) key Release))

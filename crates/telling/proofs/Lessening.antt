@@ -1,38 +1,34 @@
--- A handover never makes more of what is still to be read: the bytes that wait, and nine for each held key. Assumes nothing.
-use mathlib.Core.Path.{_≡_, ap, _∙_}
+-- A handover never makes more of what is still to be read: the bytes that wait, and eight for each held key. Assumes nothing.
+use mathlib.Core.Path.{_≡_, refl, ap, _∙_}
 use mathlib.Core.Bool.{true, not}
 use mathlib.Core.List.{List}
 use Prim.Native.Nat.{ℕ, zero, suc, _+_, _*_, _≤_, _<_}
 use native.Mathlib.Omega.{arith}
-use lib.Dec.{eqb}
 use lib.ListN.{length, getD, set, length-append}
 use Rattle.basics.specs.Choice.{pick, either}
 use Rattle.codes.specs.declared.Action.the-variants.{Release}
 use Rattle.queue.specs.Queues.{waiting}
 use Rattle.keying.specs.declared.Handed.{Handed}
-use Rattle.keying.specs.Sending.{flagOf, sends}
+use Rattle.keying.specs.Sending.{sends}
 use Rattle.keying.specs.Moves.{releasedWith, released}
 use Rattle.keying.specs.Handover.{isHeld, canLeave, handedFrom}
-use Rattle.keying.proofs.Sent.{sends-short}
+use Rattle.keying.proofs.Sent.{sends-short, flag-small}
 use Rattle.record.specs.declared.Mode.{Mode}
 use Rattle.record.specs.declared.Keys.{Keys}
 use Rattle.telling.specs.Agreeing.{heldTo, heldCount}
-use Rattle.basics.proofs.Cases.{by-cases, picked}
+use Rattle.basics.proofs.Cases.{by-cases}
 use Rattle.telling.proofs.Handing.{down-own, down-any, held-up, fewer-held}
 use Rattle.telling.proofs.Whole.{released-whole}
 
--- A release is at most eight bytes, and with it one key fewer is held.
+-- What is still to be read of the keys: the bytes that wait, and eight for each held key, the most that its release can have.
 abbrev pub toRead : Keys → ℕ
-toRead k = length (waiting (k .queue)) + 9 * heldCount (k .held)
+toRead k = length (waiting (k .queue)) + 8 * heldCount (k .held)
 
 -- No more keys are held than there are.
 pub held-most : (n : ℕ) (held : List ℕ) → heldTo n held ≤ n
 unfolding heldTo
 held-most zero held = omega arith
-held-most (suc n) held =
-    let one : flagOf (getD held (suc n) 0) ≤ 1 =
-    picked (λ (c : ℕ). c ≤ 1) (eqb (getD held (suc n) 0) 0) 0 1 (omega arith) (omega arith) in
-    omega (arith, held-most n held)
+held-most (suc n) held = omega (arith, held-most n held, flag-small (getD held (suc n) 0) _ refl)
 
 module _ (m : Mode) (types : List ℕ) where
   released-less : (k : Keys) (key : ℕ) → 1 ≤ key → key ≤ 104 → isHeld k key ≡ true → canLeave k m types key ≡ true

@@ -1,5 +1,6 @@
--- What the flags of the held keys have to do with the contacts, with the map and with the key that repeats. Assumes nothing.
-use Prim.Native.Nat.{ℕ, zero, suc, _+_, _≤_, _<_}
+-- What the flags of the held keys have to do with the contacts, with the map and with the key that repeats (docs/RULES.md, sections
+-- 5 and 6). Assumes nothing.
+use Prim.Native.Nat.{ℕ, zero, suc, _+_, _<_}
 use mathlib.Core.Path.{_≡_}
 use mathlib.Core.Logic.{_⊎_}
 use mathlib.Core.List.{List}
@@ -25,14 +26,6 @@ Outside held = (key : ℕ) → (key ≡ 0) ⊎ (104 < key) → getD held key 0 �
 -- The key that repeats, if one does, is held.
 abbrev pub Repeats : Keys → Type 0
 Repeats k = (k .repeating ≡ 0) ⊎ (getD (k .held) (k .repeating) 0 ≡ 1)
-
--- The lowest held key among those from `first` on and below `bound`.
-pub record Lowest (held : List ℕ) (first bound : ℕ) : Type 0 where
-  pub key : ℕ
-  pub from : first ≤ key
-  pub below : key < bound
-  pub up : getD held key 0 ≡ 0 → ⊥
-  pub none : (j : ℕ) → first ≤ j → j < key → getD held j 0 ≡ 0
 
 -- How many of the keys 1 to n are held,
 unfoldable pub heldTo : ℕ → List ℕ → ℕ
