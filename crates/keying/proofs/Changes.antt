@@ -14,11 +14,11 @@ use Rattle.queue.specs.Queues.{contents}
 use Rattle.record.specs.declared.Mode.{Mode}
 use Rattle.record.specs.declared.Keys.{Keys}
 use Rattle.record.specs.Parts.{keys}
+use Rattle.sending.specs.Sending.{sends, queuedOf}
+use Rattle.sending.proofs.Sent.{sequence-is}
 use Rattle.keying.specs.declared.Told.{Told}
-use Rattle.keying.specs.Sending.{sends, queuedOf}
 use Rattle.keying.specs.Repeat.{delayOf}
 use Rattle.keying.specs.Moves.{keysTold, pressed, releasedWith, released}
-use Rattle.keying.proofs.Sent.{sequence-is}
 
 -- The same parts make the same keys.
 pub told-same : (held held′ bytes bytes′ : List ℕ) (t t′ : Told) → held ≡ held′ → bytes ≡ bytes′ → t ≡ t′ → keysTold held bytes t ≡ keysTold held′ bytes′ t′

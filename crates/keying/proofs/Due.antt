@@ -15,9 +15,9 @@ use Rattle.queue.specs.Queues.{queueOf, contents}
 use Rattle.record.specs.declared.Mode.{Mode}
 use Rattle.record.specs.declared.Keys.{Keys}
 use Rattle.record.specs.Parts.{keys, withRepeat}
-use Rattle.keying.specs.Sending.{sends}
+use Rattle.sending.specs.Sending.{sends}
+use Rattle.sending.proofs.Sent.{sequence-is}
 use Rattle.keying.specs.Repeat.{intervalOf, ticked, isDue, repeated}
-use Rattle.keying.proofs.Sent.{sequence-is}
 
 pub clock-stands : (k : Keys) → k .clock ≡ 0 → k ≡ ticked k
 clock-stands k z =

@@ -19,11 +19,11 @@ use Rattle.record.specs.declared.Mode.{Mode}
 use Rattle.record.specs.declared.Keys.{Keys}
 use Rattle.record.specs.Range.{goodMode, goodKeys}
 use Rattle.record.proofs.Ranges.{good-mode-rate, good-keys, good-keys-queue, good-keys-repeating, good-keys-clock, good-keys-with-repeat}
-use Rattle.keying.specs.Sending.{sends, queuedOf}
+use Rattle.sending.specs.Sending.{sends, queuedOf}
+use Rattle.sending.proofs.Sent.{sends-short}
 use Rattle.keying.specs.Repeat.{delayOf, intervalOf, ticked, isDue, repeated}
 use Rattle.keying.specs.Moves.{pressed, releasedWith, released, moved, turnsTo}
 use Rattle.keying.specs.Handover.{handedFrom}
-use Rattle.keying.proofs.Sent.{sends-short}
 use Rattle.keying.proofs.Kept.{handed-keeps, moved-keeps, turns-keep}
 
 -- A queue stays one, whatever is queued.

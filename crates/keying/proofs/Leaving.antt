@@ -14,12 +14,12 @@ use Rattle.queue.specs.Queues.{waiting, contents, hasRoom}
 use Rattle.record.specs.declared.Mode.{Mode}
 use Rattle.record.specs.declared.Keys.{Keys}
 use Rattle.record.specs.Range.{goodKeys}
+use Rattle.sending.specs.Sending.{sends}
+use Rattle.sending.proofs.Sent.{sequence-length}
 use Rattle.keying.specs.declared.Handed.{Handed}
-use Rattle.keying.specs.Sending.{sends}
 use Rattle.keying.specs.Moves.{releasedWith, released}
 use Rattle.keying.specs.Handover.{canLeave, handedFrom, handedOver}
 use Rattle.keying.proofs.Good.{released-good}
-use Rattle.keying.proofs.Sent.{sequence-length}
 use Rattle.keying.proofs.Changes.{released-by-its-bytes}
 
 abbrev pub handed : Keys → Bool → Handed

@@ -1,4 +1,3 @@
-pub mod Sent
 pub mod Kept
 pub mod Good
 pub mod Changes
@@ -7,4 +6,3 @@ pub mod TurnedRows
 pub mod Due
 pub mod Leaving
 pub mod Places
-pub mod Silence

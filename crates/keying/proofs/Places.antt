@@ -16,11 +16,11 @@ use Rattle.queue.proofs.Meaning.{places-queueOf}
 use Rattle.queue.proofs.Room.{pushed-short}
 use Rattle.record.specs.declared.Mode.{Mode}
 use Rattle.record.specs.declared.Keys.{Keys}
-use Rattle.keying.specs.Sending.{sends, queuedOf}
+use Rattle.sending.specs.Sending.{sends, queuedOf}
+use Rattle.sending.proofs.Sent.{sends-short}
 use Rattle.keying.specs.Repeat.{isDue, repeated}
 use Rattle.keying.specs.Moves.{pressed, releasedWith, released, moved, turnsTo}
 use Rattle.keying.specs.Handover.{handedFrom}
-use Rattle.keying.proofs.Sent.{sends-short}
 use Rattle.keying.proofs.Kept.{handed-keeps, moved-keeps, turns-keep}
 
 pub record Places (k : Keys) : Type 0 where

@@ -10,9 +10,9 @@ use Rattle.queue.specs.Queues.{waiting, hasRoom}
 use Rattle.record.specs.declared.Mode.{Mode}
 use Rattle.record.specs.declared.Keys.{Keys}
 use Rattle.record.specs.Apart.{keysWith}
+use Rattle.sending.specs.Sending.{sends}
 use Rattle.keying.specs.declared.Handed.{Handed}
 use Rattle.keying.specs.declared.Passed.{Passed}
-use Rattle.keying.specs.Sending.{sends}
 use Rattle.keying.specs.Moves.{released}
 
 -- A key is held.

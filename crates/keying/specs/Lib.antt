@@ -1,4 +1,3 @@
-pub mod Sending
 pub mod Moves
 pub mod Repeat
 pub mod Handover

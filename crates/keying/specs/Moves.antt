@@ -12,8 +12,8 @@ use Rattle.queue.specs.Queues.{queueWith}
 use Rattle.record.specs.declared.Mode.{Mode}
 use Rattle.record.specs.declared.Keys.{Keys}
 use Rattle.record.specs.Parts.{keys}
+use Rattle.sending.specs.Sending.{sends, queuedOf}
 use Rattle.keying.specs.declared.Told.{Told}
-use Rattle.keying.specs.Sending.{sends, queuedOf}
 use Rattle.keying.specs.Repeat.{delayOf}
 
 -- The keys of these parts: the flags, the bytes of the queue, and the rest.

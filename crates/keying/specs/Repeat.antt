@@ -12,7 +12,7 @@ use Rattle.record.specs.declared.Mode.{Mode}
 use Rattle.record.specs.declared.Keys.{Keys}
 use Rattle.record.specs.declared.Outgoing.{Outgoing}
 use Rattle.record.specs.Parts.{withQueue, withRepeat}
-use Rattle.keying.specs.Sending.{sends}
+use Rattle.sending.specs.Sending.{sends}
 
 -- The scans from a press to its first repeat: C + 1 quarters of a second, C being bits 6 and 5 of the rate.
 unfoldable pub delayOf : ℕ → ℕ

@@ -1,10 +1,10 @@
 // The keys of a panel that was taken away are released, the lowest first, each as soon as its release fits.
 use crate::Passed;
 use crate::moves::release_with;
-use crate::sending::bytes_of;
 use codes::Action;
 use record::Mode;
 use record::Outgoing;
+use sending::bytes_of;
 ghost use mathlib.Core.Path.{_≡_};
 ghost use mathlib.Core.Bool.{true};
 ghost use Rattle.record.specs.Apart.{keysWith};

@@ -2,7 +2,6 @@
 use record::Keys;
 use record::Outgoing;
 
-pub mod sending; // sending.rt: what a key sends now
 pub mod moves; // moves.rt: a key goes down or comes up
 pub mod repeating; // repeating.rt: the key that repeats
 pub mod handover; // handover.rt: the keys of a panel that was taken away

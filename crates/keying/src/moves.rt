@@ -1,14 +1,14 @@
 // A key goes down or comes up. The flags of the held keys are lent, and change in place.
 use crate::Told;
 use crate::repeating::delay_of;
-use crate::sending::queued;
-use crate::sending::send_press;
-use crate::sending::send_release;
 use codes::Sequence;
 use keys::Table;
 use queue::Queue;
 use record::Mode;
 use record::Outgoing;
+use sending::queued;
+use sending::send_press;
+use sending::send_release;
 ghost use mathlib.Core.Path.{_≡_};
 ghost use mathlib.Core.Bool.{true};
 ghost use Prim.Native.Nat.{_≤_, _<_};

@@ -1,8 +1,8 @@
 // The key that repeats.
-use crate::sending::bytes_of;
 use codes::Action;
 use record::Mode;
 use record::Outgoing;
+use sending::bytes_of;
 ghost use mathlib.Core.Path.{_≡_};
 ghost use mathlib.Core.Bool.{true};
 ghost use Prim.Native.Nat.{_≤_};

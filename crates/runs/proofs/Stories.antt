@@ -13,7 +13,7 @@ use Rattle.codes.specs.Codes.{encode, bytesOf, formOf, cursorForm, shiftForm, p
 use Rattle.contacts.specs.Scans.{contact, same}
 use Rattle.contacts.specs.Phantom.{isPhantom, sharesAny}
 use Rattle.contacts.specs.Counts.{countedOf}
-use Rattle.keying.specs.Sending.{modifiersOf, sends, queuedOf}
+use Rattle.sending.specs.Sending.{modifiersOf, sends, queuedOf}
 use Rattle.keying.specs.Moves.{pressed, releasedWith, released, moved, turned, turnsTo}
 use Rattle.keying.specs.Repeat.{delayOf, intervalOf, repeated}
 use Rattle.keying.specs.Handover.{handedFrom}

@@ -19,12 +19,12 @@ use Rattle.frames.specs.declared.Unpacked.{Unpacked}
 use Rattle.frames.specs.declared.Unpacked.the-variants.{Byte, Broken, TooLarge}
 use Rattle.frames.specs.Frames.{unpackedOf}
 use Rattle.host.specs.Commands.{tookByte}
-use Rattle.keying.specs.Sending.{sends}
 use Rattle.keying.specs.Repeat.{ticked, isDue}
 use Rattle.record.specs.declared.Mode.{Mode}
 use Rattle.record.specs.declared.Keys.{Keys}
 use Rattle.record.specs.declared.Dock.{Dock}
 use Rattle.record.specs.Parts.{withKeys, withQueue}
+use Rattle.sending.specs.Sending.{sends}
 use Rattle.telling.specs.Queued.{turnBytes, handedBytes}
 use Rattle.runs.specs.Calls.{Call, Scan, Swap, Frame, Read, isAccepted}
 use Rattle.runs.specs.Worlds.{World, next}

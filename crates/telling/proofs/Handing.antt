@@ -15,11 +15,11 @@ use Rattle.basics.specs.Choice.{pick, either}
 use Rattle.codes.specs.declared.Action.the-variants.{Release}
 use Rattle.queue.specs.Queues.{waiting}
 use Rattle.queue.proofs.Room.{no-room-waits}
+use Rattle.sending.specs.Sending.{flagOf, sends}
+use Rattle.sending.proofs.Sent.{sends-short}
 use Rattle.keying.specs.declared.Handed.{Handed}
-use Rattle.keying.specs.Sending.{flagOf, sends}
 use Rattle.keying.specs.Moves.{releasedWith, released}
 use Rattle.keying.specs.Handover.{isHeld, canLeave, handedFrom}
-use Rattle.keying.proofs.Sent.{sends-short}
 use Rattle.keying.proofs.Kept.{handed-keeps}
 use Rattle.record.specs.declared.Mode.{Mode}
 use Rattle.record.specs.declared.Keys.{Keys}

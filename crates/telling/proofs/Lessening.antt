@@ -8,11 +8,11 @@ use lib.ListN.{length, getD, set, length-append}
 use Rattle.basics.specs.Choice.{pick, either}
 use Rattle.codes.specs.declared.Action.the-variants.{Release}
 use Rattle.queue.specs.Queues.{waiting}
+use Rattle.sending.specs.Sending.{sends}
+use Rattle.sending.proofs.Sent.{sends-short, flag-small}
 use Rattle.keying.specs.declared.Handed.{Handed}
-use Rattle.keying.specs.Sending.{sends}
 use Rattle.keying.specs.Moves.{releasedWith, released}
 use Rattle.keying.specs.Handover.{isHeld, canLeave, handedFrom}
-use Rattle.keying.proofs.Sent.{sends-short, flag-small}
 use Rattle.record.specs.declared.Mode.{Mode}
 use Rattle.record.specs.declared.Keys.{Keys}
 use Rattle.telling.specs.Agreeing.{heldTo, heldCount}

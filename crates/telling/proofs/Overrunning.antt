@@ -19,9 +19,9 @@ use Rattle.queue.proofs.Meaning.{waiting-queueOf}
 use Rattle.queue.proofs.Room.{pushed-nothing-front, no-room-waits}
 use Rattle.record.specs.declared.Mode.{Mode}
 use Rattle.record.specs.declared.Keys.{Keys}
-use Rattle.keying.specs.Sending.{sends, queuedOf}
+use Rattle.sending.specs.Sending.{sends, queuedOf}
+use Rattle.sending.proofs.Sent.{sends-short}
 use Rattle.keying.specs.Moves.{pressed, releasedWith, released, moved, turned, turnedAt}
-use Rattle.keying.proofs.Sent.{sends-short}
 use Rattle.telling.specs.Overruns.{actionTo, lacksRoom, overrunsAt}
 
 -- The bytes before and after: the same, but for the last.

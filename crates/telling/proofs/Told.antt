@@ -21,8 +21,8 @@ use Rattle.queue.proofs.Meaning.{waiting-queueOf}
 use Rattle.record.specs.declared.Mode.{Mode}
 use Rattle.record.specs.declared.Keys.{Keys}
 use Rattle.record.specs.Parts.{withQueue}
+use Rattle.sending.specs.Sending.{modifiersOf, numLock, sends}
 use Rattle.keying.specs.declared.Handed.{Handed}
-use Rattle.keying.specs.Sending.{modifiersOf, numLock, sends}
 use Rattle.keying.specs.Moves.{pressed, releasedWith, released, turnsTo}
 use Rattle.keying.specs.Repeat.{ticked, isDue, repeated}
 use Rattle.keying.specs.Handover.{isHeld, canLeave, handedFrom}

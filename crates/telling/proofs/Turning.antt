@@ -12,11 +12,11 @@ use Rattle.basics.specs.Choice.{pick}
 use Rattle.codes.specs.declared.Action.{Action}
 use Rattle.codes.specs.declared.Action.the-variants.{Press, Release}
 use Rattle.contacts.specs.Scans.{contact}
-use Rattle.keying.specs.Sending.{sends}
 use Rattle.keying.specs.Moves.{pressed, released, moved, turned, turnedAt}
 use Rattle.queue.specs.Queues.{waiting, hasRoom}
 use Rattle.record.specs.declared.Mode.{Mode}
 use Rattle.record.specs.declared.Keys.{Keys}
+use Rattle.sending.specs.Sending.{sends}
 use Rattle.telling.specs.Overruns.{lacksRoom, overrunsAt}
 use Rattle.telling.specs.Queued.{moveBytes, turnBytesAt}
 use Rattle.basics.proofs.Cases.{two-by-cases}

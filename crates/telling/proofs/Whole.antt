@@ -14,8 +14,8 @@ use Rattle.queue.proofs.Meaning.{waiting-queueOf}
 use Rattle.queue.proofs.Room.{pushed-whole}
 use Rattle.record.specs.declared.Mode.{Mode}
 use Rattle.record.specs.declared.Keys.{Keys}
+use Rattle.sending.specs.Sending.{sends, queuedOf}
 use Rattle.keying.specs.declared.Handed.{Handed}
-use Rattle.keying.specs.Sending.{sends, queuedOf}
 use Rattle.keying.specs.Moves.{pressed, releasedWith, released, turnsTo}
 use Rattle.keying.specs.Handover.{isHeld, canLeave, handedFrom}
 use Rattle.telling.specs.Overruns.{overrunsAt, overrunsTo}

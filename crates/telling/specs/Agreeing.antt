@@ -6,8 +6,8 @@ use mathlib.Core.Logic.{_⊎_}
 use mathlib.Core.List.{List}
 use lib.ListN.{getD}
 use Rattle.contacts.specs.Scans.{contact}
-use Rattle.keying.specs.Sending.{flagOf}
 use Rattle.record.specs.declared.Keys.{Keys}
+use Rattle.sending.specs.Sending.{flagOf}
 
 -- The held keys are those whose contacts count as closed; a key that stands nowhere on the map is not held.
 pub record Agrees (map closed held : List ℕ) : Type 0 where

@@ -8,11 +8,11 @@ use Rattle.basics.specs.Choice.{pick, both, either}
 use Rattle.codes.specs.declared.Action.{Action}
 use Rattle.codes.specs.declared.Action.the-variants.{Press, Release}
 use Rattle.contacts.specs.Scans.{contact}
-use Rattle.keying.specs.Sending.{sends}
 use Rattle.keying.specs.Moves.{turnsTo}
 use Rattle.queue.specs.Queues.{waiting, hasRoom}
 use Rattle.record.specs.declared.Mode.{Mode}
 use Rattle.record.specs.declared.Keys.{Keys}
+use Rattle.sending.specs.Sending.{sends}
 
 -- What a key does whose contact turned: to closed (1) it is pressed, to open (0) released.
 abbrev pub actionTo : ℕ → Action

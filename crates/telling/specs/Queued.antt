@@ -8,11 +8,11 @@ use lib.ListN.{getD}
 use Rattle.basics.specs.Choice.{pick, either}
 use Rattle.codes.specs.declared.Action.the-variants.{Release}
 use Rattle.contacts.specs.Scans.{contact}
-use Rattle.keying.specs.Sending.{sends}
 use Rattle.keying.specs.Moves.{released, turnsTo}
 use Rattle.keying.specs.Handover.{isHeld, canLeave}
 use Rattle.record.specs.declared.Mode.{Mode}
 use Rattle.record.specs.declared.Keys.{Keys}
+use Rattle.sending.specs.Sending.{sends}
 use Rattle.telling.specs.Overruns.{actionTo}
 
 -- The bytes of a key whose contact turned; where there is no key there are none.

@@ -10,8 +10,8 @@ use Rattle.codes.specs.declared.Action.the-variants.{Release}
 use Rattle.queue.proofs.Meaning.{tidy-short}
 use Rattle.record.specs.Apart.{keysWith}
 use Rattle.record.proofs.Ranges.{good-keys-queue}
-use Rattle.keying.specs.Sending.{sends}
-use Rattle.keying.proofs.Sent.{sequence-short}
+use Rattle.sending.specs.Sending.{sends}
+use Rattle.sending.proofs.Sent.{sequence-short}
 use Rattle.keying.proofs.Leaving.{Going, begins, passes, leaves, waits, ends}
 use Rattle.keying.proofs.handover.hand_over.Statement.{statement}
 use Rattle.keying.proofs.handover.hand_over.Tie as tie

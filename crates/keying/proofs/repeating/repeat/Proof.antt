@@ -5,8 +5,8 @@ use borrow.Author.Tests.{not-true, not-false}
 use Rattle.codes.specs.declared.Action.the-variants.{Repeat}
 use Rattle.record.specs.Apart.{keysWith}
 use Rattle.record.proofs.Ranges.{good-keys-repeating}
-use Rattle.keying.specs.Sending.{sends}
-use Rattle.keying.proofs.Sent.{sequence-short}
+use Rattle.sending.specs.Sending.{sends}
+use Rattle.sending.proofs.Sent.{sequence-short}
 use Rattle.keying.proofs.Due.{repeats-none, repeats-later, repeats-no-more, repeats-lost, repeats-sent}
 use Rattle.keying.proofs.repeating.repeat.Statement.{statement}
 use Rattle.keying.proofs.repeating.repeat.Tie as tie

@@ -1,0 +1,38 @@
+-- `sending::bytes_in` meets its contract: a key of one form sends the same whatever else is held, and any other is asked for in full. Assumes nothing.
+use mathlib.Core.Path.{sym, _∙_}
+use borrow.Author.Needs.{needs}
+use borrow.Author.Tests.{not-true}
+use Rattle.sending.specs.Sending.{modifiersOf, numLock}
+use Rattle.sending.proofs.bytes_in.Statement.{statement}
+use Rattle.sending.proofs.bytes_in.Tie as tie
+
+has-forms-requires : tie.Need-has-forms-requires
+has-forms-requires c κs = search needs
+
+plain-sequence-requires : tie.Need-plain-sequence-requires
+plain-sequence-requires c κs = (c .before .before .pre, sym (c .before .has-forms .ensures) ∙ not-true _ (c .if1 .taken))
+
+returns : tie.Need-returns
+returns c =
+    let a = c .before .before .before .args in
+    c .plain-sequence .ensures (modifiersOf (a .held .now)) (numLock (a .m))
+
+modifiers-of-requires : tie.Need-modifiers-of-requires
+modifiers-of-requires c κs = search needs
+
+sequence-in-requires : tie.Need-sequence-in-requires
+sequence-in-requires c κs = search needs
+
+returns-2 : tie.Need-returns-2
+returns-2 c = rw (c .before .modifiers-of .ensures) at (c .sequence-in .ensures)
+
+pub bytes-in-spec : {M : Type 1} → statement M
+bytes-in-spec =
+    tie.close
+    (tie.spec
+    has-forms-requires
+    plain-sequence-requires
+    returns
+    modifiers-of-requires
+    sequence-in-requires
+    returns-2)

@@ -1,0 +1,16 @@
+-- `sending::bytes_of` meets its contract: the encoder is asked for just what the definition names. Assumes nothing.
+use borrow.Author.Needs.{needs}
+use Rattle.sending.proofs.bytes_of.Statement.{statement}
+use Rattle.sending.proofs.bytes_of.Tie as tie
+
+modifiers-of-requires : tie.Need-modifiers-of-requires
+modifiers-of-requires c κs = search needs
+
+sequence-of-requires : tie.Need-sequence-of-requires
+sequence-of-requires c κs = search needs
+
+returns : tie.Need-returns
+returns c = rw (c .before .modifiers-of .ensures) at (c .sequence-of .ensures)
+
+pub bytes-of-spec : {M : Type 1} → statement M
+bytes-of-spec = tie.close (tie.spec modifiers-of-requires sequence-of-requires returns)

@@ -1,0 +1,13 @@
+-- `sending::flag` meets its contract. Assumes nothing.
+use borrow.Author.Tests.{eq-eqb, ne-eqb}
+use Rattle.sending.proofs.flag.Statement.{statement}
+use Rattle.sending.proofs.flag.Tie as tie
+
+returns : tie.Need-returns
+returns c = simp (eq-eqb _ _ (c .if1 .taken))
+
+returns-2 : tie.Need-returns-2
+returns-2 c = simp (ne-eqb _ _ (c .if1 .left))
+
+pub flag-spec : {M : Type 1} → statement M
+flag-spec = tie.close (tie.spec returns returns-2)

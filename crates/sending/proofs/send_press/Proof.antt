@@ -1,0 +1,58 @@
+-- `sending::send_press` meets its contract: a full queue takes the mark, and any other is asked whether the bytes fit. Assumes nothing.
+use borrow.Author.Needs.{needs}
+use Rattle.codes.specs.declared.Action.the-variants.{Press}
+use Rattle.queue.specs.Queues.{queueWith}
+use Rattle.record.specs.Parts.{keys}
+use Rattle.sending.specs.Sending.{modifiersOf, numLock, sends}
+use Rattle.sending.proofs.Sent.{sequence-short, sequence-is}
+use Rattle.sending.proofs.Silence.{press-some, full-marks, pushed-queues}
+use Rattle.sending.proofs.send_press.Statement.{statement}
+use Rattle.sending.proofs.send_press.Tie as tie
+
+mark-of-requires : tie.Need-mark-of-requires
+mark-of-requires c κs = search needs
+
+element-write-bytes : tie.Need-element-write-bytes
+element-write-bytes c = search needs
+
+returns : tie.Need-returns
+returns c =
+    let s = c .before .before in
+    let a = s .args in
+    full-marks (a .bytes .now) (a .at) (a .m) _ (s .pre .0) (s .pre .1) _ (c .mark-of .ensures) (c .before .if1 .taken)
+    (press-some (a .m .set) (a .key) (a .kind) (modifiersOf (a .held .now)) (numLock (a .m)))
+
+bytes-in-requires : tie.Need-bytes-in-requires
+bytes-in-requires c κs = search needs
+
+mark-of-requires-2 : tie.Need-mark-of-requires-2
+mark-of-requires-2 c κs = search needs
+
+push-requires : tie.Need-push-requires
+unfolding sends
+push-requires c κs =
+    let s = c .before .before .before .before in
+    let a = s .args in
+    let k = keys (a .held .now) (queueWith (a .bytes .now) (a .at)) 0 0 in
+    (s .pre .0, sequence-short k (a .m) (a .kind) (a .key) Press _ (c .before .before .bytes-in .ensures))
+
+returns-2 : tie.Need-returns-2
+unfolding sends
+returns-2 c =
+    let s = c .before .before .before .before .before in
+    let a = s .args in
+    let k = keys (a .held .now) (queueWith (a .bytes .now) (a .at)) 0 0 in
+    pushed-queues (a .bytes .now) (a .at) (a .m) _ (s .pre .0) (s .pre .1) _ (c .before .mark-of2 .ensures) _ _
+    (sequence-is k (a .m) (a .kind) (a .key) Press _ (c .before .before .before .bytes-in .ensures)) (c .push .ensures)
+
+pub send-press-spec : {M : Type 1} → statement M
+send-press-spec =
+    tie.close
+    (tie.spec
+    mark-of-requires
+    element-write-bytes
+    returns
+    bytes-in-requires
+    mark-of-requires-2
+    push-requires
+    returns-2)

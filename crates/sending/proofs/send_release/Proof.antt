@@ -1,0 +1,93 @@
+-- `sending::send_release` meets its contract: a silent release sends nothing, one for which even the shortest has no room takes the
+-- mark, and any other is asked whether its bytes fit. Assumes nothing.
+use native.Mathlib.Omega.{arith}
+use borrow.Author.Needs.{needs}
+use Rattle.codes.specs.declared.Action.the-variants.{Release}
+use Rattle.queue.specs.Queues.{queueWith}
+use Rattle.record.specs.Parts.{keys}
+use Rattle.queue.proofs.Meaning.{tidy-short}
+use Rattle.record.proofs.Ranges.{good-mode-set}
+use Rattle.sending.specs.Sending.{modifiersOf, numLock, sends}
+use Rattle.sending.proofs.Sent.{sequence-short, sequence-is}
+use Rattle.sending.proofs.Silence.{release-none, release-long, little-room, too-long, nothing-queued, no-room-marks, pushed-queues}
+use Rattle.sending.proofs.send_release.Statement.{statement}
+use Rattle.sending.proofs.send_release.Tie as tie
+
+is-silent-requires : tie.Need-is-silent-requires
+is-silent-requires c κs = good-mode-set _ (c .pre .2)
+
+returns : tie.Need-returns
+returns c =
+    let s = c .before .before in
+    let a = s .args in
+    nothing-queued (a .bytes .now) (a .at) (a .m) _ (s .pre .0) (s .pre .1)
+    (release-none (a .m .set) (a .key) (a .kind) (modifiersOf (a .held .now)) (numLock (a .m)) _ (c .before .is-silent .ensures) (c .if1 .taken))
+
+sub-if2 : tie.Need-sub-if2
+sub-if2 c = tidy-short _ (c .before .before .pre .0)
+
+shortest-release-requires : tie.Need-shortest-release-requires
+shortest-release-requires c κs = search needs
+
+mark-of-requires : tie.Need-mark-of-requires
+mark-of-requires c κs = search needs
+
+sub-bytes : tie.Need-sub-bytes
+sub-bytes c =
+    let t = c .before in
+    let a = t .before .before .before .before .args in
+    little-room (a .m .set) _ _ (t .before .shortest-release .ensures) (t .if2 .taken)
+
+element-write-bytes : tie.Need-element-write-bytes
+element-write-bytes c = omega (arith, tidy-short _ (c .before .before .before .before .before .pre .0))
+
+returns-2 : tie.Need-returns-2
+returns-2 c =
+    let t = c .before in
+    let e = t .before .before in
+    let s = e .before .before in
+    let a = s .args in
+    let least = t .before .shortest-release .ensures in
+    let long = release-long (a .m .set) (a .key) (a .kind) (modifiersOf (a .held .now)) (numLock (a .m)) _ (e .before .is-silent .ensures) (e .if1 .left) in
+    no-room-marks (a .bytes .now) (a .at) (a .m) _ (s .pre .0) (s .pre .1) _ (c .mark-of .ensures)
+    (little-room (a .m .set) _ _ least (t .if2 .taken)) (too-long (a .m .set) _ _ _ least long (t .if2 .taken))
+
+bytes-in-requires : tie.Need-bytes-in-requires
+bytes-in-requires c κs = search needs
+
+mark-of-requires-2 : tie.Need-mark-of-requires-2
+mark-of-requires-2 c κs = search needs
+
+push-requires : tie.Need-push-requires
+unfolding sends
+push-requires c κs =
+    let s = c .before .before .before .before .before .before .before in
+    let a = s .args in
+    let k = keys (a .held .now) (queueWith (a .bytes .now) (a .at)) 0 0 in
+    (s .pre .0, sequence-short k (a .m) (a .kind) (a .key) Release _ (c .before .before .bytes-in .ensures))
+
+returns-3 : tie.Need-returns-3
+unfolding sends
+returns-3 c =
+    let s = c .before .before .before .before .before .before .before .before in
+    let a = s .args in
+    let k = keys (a .held .now) (queueWith (a .bytes .now) (a .at)) 0 0 in
+    pushed-queues (a .bytes .now) (a .at) (a .m) _ (s .pre .0) (s .pre .1) _ (c .before .mark-of2 .ensures) _ _
+    (sequence-is k (a .m) (a .kind) (a .key) Release _ (c .before .before .before .bytes-in .ensures)) (c .push .ensures)
+
+pub send-release-spec : {M : Type 1} → statement M
+send-release-spec =
+    tie.close
+    (tie.spec
+    is-silent-requires
+    returns
+    sub-if2
+    shortest-release-requires
+    mark-of-requires
+    sub-bytes
+    element-write-bytes
+    returns-2
+    bytes-in-requires
+    mark-of-requires-2
+    push-requires
+    returns-3)

@@ -1,0 +1,139 @@
+// What a key sends as things stand, and how it is queued (docs/RULES.md, sections 3 and 7).
+use codes::Action;
+use codes::Sequence;
+use keys::Table;
+use queue::Queue;
+use record::Mode;
+ghost use mathlib.Core.Path.{_≡_};
+ghost use mathlib.Core.Bool.{true, not};
+ghost use Prim.Native.Nat.{_≤_};
+ghost use lib.ListN.{length};
+ghost use Rattle.basics.specs.Choice.{either};
+ghost use Rattle.codes.specs.declared.Action.the-variants.{Press, Release};
+ghost use Rattle.codes.specs.Codes.{pausesAtOnce, sendsRelease};
+ghost use Rattle.codes.specs.Sequences.{holding};
+ghost use Rattle.keys.specs.Keys.{markOf, laidOut};
+ghost use Rattle.queue.specs.Queues.{queueWith, tidy, contents};
+ghost use Rattle.record.specs.Range.{goodMode};
+ghost use Rattle.sending.specs.Sending.{flagOf, modifiersOf, sendsWith, queuedOf, shortestRelease};
+
+// A flag that is up counts 1.
+fn flag(x: u8) -> u8
+    ensures { λ r. ⌜ r ≡ flagOf x ⌝ }
+{
+    if x == 0 {
+        return 0;
+    }
+    1
+}
+
+// The modifier keys among the held ones.
+fn modifiers_of(held: &[u8; 144]) -> u8
+    ensures { λ r. ⌜ r ≡ modifiersOf (now (held .entry)) ⌝ }
+{
+    flag(held[42])
+        + 2 * flag(held[53])
+        + 4 * flag(held[54])
+        + 8 * flag(held[58])
+        + 16 * flag(held[55])
+        + 32 * flag(held[57])
+}
+
+// The bytes that an action of a key sends.
+pub fn bytes_of(held: &[u8; 144], m: Mode, kind: u8, key: u8, action: Action) -> Sequence
+    ensures { λ r. ⌜ r ≡ holding (sendsWith (now (held .entry)) m kind key action) ⌝ }
+{
+    let lock = m.indicators / 2 % 2 == 1;
+    codes::strokes::sequence_of(m.set, key, action, kind, modifiers_of(held), lock)
+}
+
+// The same by a key table at hand. A key of one form does not ask what else is held.
+fn bytes_in(held: &[u8; 144], table: &Table, m: Mode, kind: u8, key: u8, action: Action) -> Sequence
+    requires { ⌜ now table ≡ laidOut ⌝ }
+    ensures { λ r. ⌜ r ≡ holding (sendsWith (now (held .entry)) m kind key action) ⌝ }
+{
+    if !codes::forms::has_forms(m.set, key) {
+        return codes::plain::plain_sequence(table, m.set, key, action, kind);
+    }
+    let locked = m.indicators / 2 % 2 == 1;
+    codes::strokes::sequence_in(table, m.set, key, action, kind, modifiers_of(held), locked)
+}
+
+// The overrun mark of a set.
+fn mark_of(set: u8) -> u8
+    ensures { λ r. ⌜ r ≡ markOf set ⌝ }
+{
+    if set == 1 { 0xff } else { 0x00 }
+}
+
+// The queue with a sequence behind it, or with the overrun mark.
+pub fn queued(q: Queue, m: Mode, s: Sequence) -> Queue
+    requires { ⌜ (tidy q ≡ true) × (s .length ≤ 8) ⌝ }
+    ensures { λ r. ⌜ r ≡ queuedOf q m (contents s) ⌝ }
+{
+    queue::pushed(q, s, mark_of(m.set))
+}
+
+// A release that sends nothing: that of PAUSE, which sent all on its press, and in set 3 those of keys whose type sends none.
+fn is_silent(set: u8, key: u8, kind: u8) -> bool
+    requires { ⌜ (1 ≤ set) × (set ≤ 3) ⌝ }
+    ensures { λ r. ⌜ r ≡ either (pausesAtOnce set key) (not (sendsRelease set kind)) ⌝ }
+{
+    if set == 3 {
+        return (kind != keys::MAKE_BREAK) & (kind != keys::TYPEMATIC_MAKE_BREAK);
+    }
+    key == codes::PAUSE
+}
+
+// The bytes that any other release has at least.
+fn shortest_release(set: u8) -> usize
+    ensures { λ r. ⌜ r ≡ shortestRelease set ⌝ }
+{
+    if set == 1 { 1 } else { 2 }
+}
+
+// What a press sends goes behind the first `at` of the bytes, and so many wait then. A press sends something, and a full queue takes
+// nothing, so there the mark is put without asking what.
+pub fn send_press(
+    held: &[u8; 144],
+    bytes: &mut [u8; 16],
+    at: usize,
+    table: &Table,
+    m: Mode,
+    kind: u8,
+    key: u8,
+) -> usize
+    requires { ⌜ (tidy (queueWith (now bytes) at) ≡ true) × (length (now bytes) ≡ 16) × (now table ≡ laidOut) ⌝ }
+    ensures { λ r. ⌜ queueWith (now (bytes .exit)) r ≡ queuedOf (queueWith (now (bytes .entry)) at) m (sendsWith (now (held .entry)) m kind key Press) ⌝ }
+{
+    if at == 16 {
+        bytes[15] = mark_of(m.set);
+        return 16;
+    }
+    let s = bytes_in(held, table, m, kind, key, Action::Press);
+    queue::push(bytes, at, s, mark_of(m.set))
+}
+
+// What a release sends, likewise: nothing changes if it is silent, and where the shortest has no room the mark is put.
+pub fn send_release(
+    held: &[u8; 144],
+    bytes: &mut [u8; 16],
+    at: usize,
+    table: &Table,
+    m: Mode,
+    kind: u8,
+    key: u8,
+) -> usize
+    requires { ⌜ (tidy (queueWith (now bytes) at) ≡ true) × (length (now bytes) ≡ 16) × (goodMode m ≡ true) × (now table ≡ laidOut) ⌝ }
+    ensures { λ r. ⌜ queueWith (now (bytes .exit)) r ≡ queuedOf (queueWith (now (bytes .entry)) at) m (sendsWith (now (held .entry)) m kind key Release) ⌝ }
+{
+    if is_silent(m.set, key, kind) {
+        return at;
+    }
+    if 16 - at < shortest_release(m.set) {
+        bytes[at - 1] = mark_of(m.set);
+        return at;
+    }
+    let s = bytes_in(held, table, m, kind, key, Action::Release);
+    queue::push(bytes, at, s, mark_of(m.set))
+}
