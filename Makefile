@@ -2,7 +2,7 @@
 # make bench  leaves the bench in build/bin
 # make test   proves and tests everything
 # make lib    puts the static library and its header into build/lib
-# make speed  counts the instructions of a line of each kind of load
+# make speed  counts the instructions of a line of each load, of one line of each call, and of a call from C
 .PHONY: run bench test lib speed clean
 
 run: bench

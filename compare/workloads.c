@@ -76,18 +76,33 @@ static void commands(long lines)
         printf("%03X\n\n", frame(bytes[i / 2 % 8]));
 }
 
+static int is_of_scans(const char *kind)
+{
+    static const char *const kinds[] = {"idle", "typing", "held", "phantom", "turning"};
+    for (size_t i = 0; i < sizeof kinds / sizeof *kinds; i++)
+        if (strcmp(kind, kinds[i]) == 0)
+            return 1;
+    return 0;
+}
+
+static int usage(void)
+{
+    fputs("usage: workloads idle|typing|held|phantom|turning|swap|host LINES\n", stderr);
+    return 2;
+}
+
 int main(int count, char **words)
 {
-    if (count != 3) {
-        fputs("usage: workloads idle|typing|held|phantom|turning|swap|host LINES\n", stderr);
-        return 2;
-    }
+    if (count != 3)
+        return usage();
     long lines = strtol(words[2], NULL, 10);
     if (strcmp(words[1], "swap") == 0)
         swaps(lines);
     else if (strcmp(words[1], "host") == 0)
         commands(lines);
-    else
+    else if (is_of_scans(words[1]))
         scans(words[1], lines);
+    else
+        return usage();
     return 0;
 }

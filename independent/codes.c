@@ -42,8 +42,8 @@ static uint8_t *put_pause(uint8_t *end, unsigned set, bool ctrl)
     return end + count;
 }
 
-/* The shifts sent around a key. Those held are lifted for the key and put back
- * after it; if none is held, a left one is feigned (feigned is then true). */
+/* The shifts sent around a key: those held, lifted for the key and put back
+ * after it, or a left one that is feigned. None if shifts is 0. */
 struct wrapping {
     unsigned shifts;
     bool feigned;

@@ -59,7 +59,7 @@ static int refused(int32_t answer)
         why = "an output under 8 bytes";
         break;
     case KEYDOCK_REFUSED_CHOICE:
-        why = "a set, key, event, type or modifier out of its range";
+        why = "a set, key, event, type, modifier or Num Lock out of its range";
         break;
     case KEYDOCK_REFUSED_STATE:
         why = "no such reader state";
