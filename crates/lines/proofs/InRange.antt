@@ -16,16 +16,16 @@ use Rattle.lines.specs.declared.Stepped.{Stepped}
 use Rattle.lines.specs.declared.Walked.{Walked}
 use Rattle.lines.specs.Steps.{stepBy, stepOf, walkedWith}
 
-by-kind : (kind : Kind) (d : Dock) (line : List ℕ) → inRange d ≡ true → inRange (stepBy kind d line .dock) ≡ true
-by-kind Read d line h = read-in-range d h
-by-kind Frame d line h = frame-in-range d (frameIn line) h
-by-kind Scan d line h = scan-in-range d (bytesFrom line 0 18) h
-by-kind Map d line h = swap-in-range d (bytesFrom line 0 144) h
-by-kind Malformed d line h = h
+kind-in-range : (kind : Kind) (d : Dock) (line : List ℕ) → inRange d ≡ true → inRange (stepBy kind d line .dock) ≡ true
+kind-in-range Read d line h = read-in-range d h
+kind-in-range Frame d line h = frame-in-range d (frameIn line) h
+kind-in-range Scan d line h = scan-in-range d (bytesFrom line 0 18) h
+kind-in-range Map d line h = swap-in-range d (bytesFrom line 0 144) h
+kind-in-range Malformed d line h = h
 
 pub step-in-range : (d : Dock) (line : List ℕ) → inRange d ≡ true → inRange (stepOf d line .dock) ≡ true
 unfolding stepOf
-step-in-range d line h = by-kind (kindOf line) d line h
+step-in-range d line h = rw h (kind-in-range (kindOf line) d line h)
 
 -- Of a record whose arrays were lent.
 pub walked-in-range : (map closed counts held types : List ℕ) (r : Rest) (line map′ closed′ counts′ held′ types′ : List ℕ) (x : Walked)

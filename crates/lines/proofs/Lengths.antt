@@ -3,10 +3,12 @@ use mathlib.Core.Path.{_≡_, sym, subst}
 use mathlib.Core.List.{List}
 use Prim.Native.Nat.{ℕ}
 use lib.ListN.{length}
+use Rattle.basics.proofs.Cases.{picked}
 use Rattle.dock.proofs.Sizes.{Sizes, scan-sizes, read-sizes, swap-sizes, frame-sizes}
 use Rattle.record.specs.declared.Dock.{Dock}
 use Rattle.record.specs.declared.Rest.{Rest}
 use Rattle.record.specs.Apart.{dockWith}
+use Rattle.record.specs.Range.{inRange}
 use Rattle.text.specs.declared.Kind.{Kind}
 use Rattle.text.specs.declared.Kind.the-variants.{Read, Frame, Scan, Map, Malformed}
 use Rattle.text.specs.Digits.{bytesFrom, frameIn}
@@ -15,16 +17,16 @@ use Rattle.lines.specs.declared.Stepped.{Stepped}
 use Rattle.lines.specs.declared.Walked.{Walked}
 use Rattle.lines.specs.Steps.{stepBy, stepOf, walkedWith}
 
-by-kind : (kind : Kind) (d : Dock) (line : List ℕ) → Sizes d → Sizes (stepBy kind d line .dock)
-by-kind Read d line s = read-sizes d s
-by-kind Frame d line s = frame-sizes d (frameIn line) s
-by-kind Scan d line s = scan-sizes d (bytesFrom line 0 18) s
-by-kind Map d line s = swap-sizes d (bytesFrom line 0 144) s
-by-kind Malformed d line s = s
+kind-sizes : (kind : Kind) (d : Dock) (line : List ℕ) → Sizes d → Sizes (stepBy kind d line .dock)
+kind-sizes Read d line s = read-sizes d s
+kind-sizes Frame d line s = frame-sizes d (frameIn line) s
+kind-sizes Scan d line s = scan-sizes d (bytesFrom line 0 18) s
+kind-sizes Map d line s = swap-sizes d (bytesFrom line 0 144) s
+kind-sizes Malformed d line s = s
 
 pub step-sizes : (d : Dock) (line : List ℕ) → Sizes d → Sizes (stepOf d line .dock)
 unfolding stepOf
-step-sizes d line s = by-kind (kindOf line) d line s
+step-sizes d line s = picked (λ (r : Stepped). Sizes (r .dock)) (inRange d) _ _ (kind-sizes (kindOf line) d line s) s
 
 -- The arrays that were lent.
 pub walked-lengths : (map closed counts held types : List ℕ) (r : Rest) (line map′ closed′ counts′ held′ types′ : List ℕ) (x : Walked)

@@ -1,5 +1,4 @@
--- Lines that are refused: with a record out of its range the call of every kind is; and a refused line leaves the record as it was.
--- Assumes nothing.
+-- A refused line leaves the record as it was. Assumes nothing.
 use mathlib.Core.Path.{_≡_, refl, ap}
 use mathlib.Core.Bool.{Bool, true, false}
 use mathlib.Core.List.{List}
@@ -8,7 +7,7 @@ use native.Mathlib.Omega.{arith}
 use lib.Dec.{eqb}
 use lib.ListN.{length}
 use Rattle.basics.specs.Lists.{allUpTo}
-use Rattle.basics.proofs.Cases.{by-cases}
+use Rattle.basics.proofs.Cases.{by-cases, picked}
 use Rattle.dock.specs.declared.Answer.{Answer}
 use Rattle.dock.specs.declared.Answer.the-variants.{Accepted}
 use Rattle.dock.specs.declared.Answered.{Answered}
@@ -18,10 +17,6 @@ use Rattle.dock.specs.Frame.{tookFrame, frameOf}
 use Rattle.dock.specs.Read.{replyTaken, keyByteTaken, read, readOf}
 use Rattle.dock.specs.Scan.{scanOf}
 use Rattle.dock.specs.Swap.{swapOf}
-use Rattle.dock.proofs.Framing.{frame-refused}
-use Rattle.dock.proofs.Reading.{read-refused}
-use Rattle.dock.proofs.Scanning.{scan-refused}
-use Rattle.dock.proofs.Swapping.{swap-refused}
 use Rattle.frames.specs.declared.Unpacked.{Unpacked}
 use Rattle.frames.specs.declared.Unpacked.the-variants.{Byte, Broken, TooLarge}
 use Rattle.frames.specs.Frames.{unpackedOf}
@@ -35,20 +30,7 @@ use Rattle.text.specs.Lines.{kindOf}
 use Rattle.lines.specs.declared.Printed.{Printed}
 use Rattle.lines.specs.declared.Printed.the-variants.{Silence, FrameLine, RefusalLine}
 use Rattle.lines.specs.declared.Stepped.{Stepped}
-use Rattle.lines.specs.Steps.{stepped, steppedBy, steppedRead, stepBy, stepOf}
-
-module _ (d : Dock) (line : List ℕ) (f : inRange d ≡ false) where
-  pub scan-line-refused : stepped d (RefusalLine 9) ≡ stepBy Scan d line
-  scan-line-refused = ap steppedBy (scan-refused d (bytesFrom line 0 18) f)
-
-  pub read-line-refused : stepped d (RefusalLine 9) ≡ stepBy Read d line
-  read-line-refused = ap steppedRead (read-refused d f)
-
-  pub frame-line-refused : stepped d (RefusalLine 9) ≡ stepBy Frame d line
-  frame-line-refused = ap steppedBy (frame-refused d (frameIn line) f)
-
-  pub map-line-refused : stepped d (RefusalLine 9) ≡ stepBy Map d line
-  map-line-refused = ap steppedBy (swap-refused d (bytesFrom line 0 144) f)
+use Rattle.lines.specs.Steps.{steppedBy, steppedRead, stepBy, stepOf}
 
 -- What is printed is a refusal.
 abbrev refuses : Printed → Bool
@@ -124,4 +106,5 @@ module _ (d : Dock) where
 
   pub step-refused : (line : List ℕ) (number : ℕ) → stepOf d line .printed ≡ RefusalLine number → stepOf d line .dock ≡ d
   unfolding stepOf
-  step-refused line number e = left (kindOf line) line (ap refuses e)
+  step-refused line number e =
+      picked Left (inRange d) _ _ (left (kindOf line) line) (λ refused. refl) (ap refuses e)

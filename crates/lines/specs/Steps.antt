@@ -16,6 +16,7 @@ use Rattle.dock.specs.Swap.{swapOf}
 use Rattle.frames.specs.Frames as frames
 use Rattle.record.specs.declared.Dock.{Dock}
 use Rattle.record.specs.Apart.{dockWith}
+use Rattle.record.specs.Range.{inRange}
 use Rattle.text.specs.declared.Kind.{Kind}
 use Rattle.text.specs.declared.Kind.the-variants.{Read, Frame, Scan, Map, Malformed}
 use Rattle.text.specs.Digits.{bytesFrom, frameIn}
@@ -40,9 +41,11 @@ readPrints Refused = RefusalLine (readNumberOf Refused)
 abbrev pub stepped : Dock → Printed → Stepped
 stepped dock printed = record { dock = dock; printed = printed }
 
+-- After a scan, a swap or a frame.
 abbrev pub steppedBy : Answered → Stepped
 steppedBy r = stepped (r .dock) (answerPrints (r .answer))
 
+-- After a read.
 abbrev pub steppedRead : Taken → Stepped
 steppedRead r = stepped (r .dock) (readPrints (r .given))
 
@@ -58,6 +61,6 @@ stepBy Scan d line = steppedBy (scanOf d (bytesFrom line 0 18))
 stepBy Map d line = steppedBy (swapOf d (bytesFrom line 0 144))
 stepBy Malformed d line = stepped d (RefusalLine 8)
 
--- What a line does, its newline apart.
+-- What a line does, its newline apart. A record out of its range is refused before all else.
 unfoldable pub stepOf : Dock → List ℕ → Stepped
-stepOf d line = stepBy (kindOf line) d line
+stepOf d line = pick (inRange d) (stepBy (kindOf line) d line) (stepped d (RefusalLine 9))

@@ -7,7 +7,7 @@ use record::apart::dock_with;
 use record::apart::rest_of;
 use text::Kind;
 ghost use mathlib.Core.Path.{_≡_};
-ghost use mathlib.Core.Bool.{true, false};
+ghost use mathlib.Core.Bool.{true};
 ghost use mathlib.Core.List.{List};
 ghost use Prim.Native.Nat.{ℕ};
 ghost use lib.ListN.{length};
@@ -19,11 +19,11 @@ ghost use Rattle.dock.specs.Read.{readOf};
 ghost use Rattle.text.specs.Digits.{allDigits, bytesFrom, frameIn};
 ghost use Rattle.record.specs.Apart.{dockWith};
 ghost use Rattle.record.specs.Range.{inRange};
-ghost use Rattle.record.specs.declared.Dock.{Dock};
-ghost use Rattle.lines.specs.Steps.{answerPrints, readPrints, stepped, steppedBy, steppedRead, walkedWith, stepOf};
+ghost use Rattle.lines.specs.Steps.{answerPrints, readPrints, steppedBy, steppedRead, walkedWith, stepOf};
 
 // What a line prints.
 pub enum Printed {
+    // Nothing.
     Silence,
     // The frame that a read gave; 0 if it gave none.
     FrameLine(u16),
@@ -31,6 +31,7 @@ pub enum Printed {
     RefusalLine(u8),
 }
 
+// The record after a line, and what the line prints.
 pub struct Stepped {
     pub dock: Dock,
     pub printed: Printed,
@@ -177,28 +178,14 @@ pub fn step_in_place(
     }
 }
 
-// What a line prints if the record is out of its range: a malformed one is told first.
-fn refusal_of(line: &[u8]) -> Printed
-    ensures { λ p. ⌜ ((d : Dock) → inRange d ≡ false → stepped d p ≡ stepOf d (now (line .entry))) ⌝ }
-{
-    let kind = text::kinds::kind_of(line);
-    match kind {
-        Kind::Scan => Printed::RefusalLine(9),
-        Kind::Read => Printed::RefusalLine(9),
-        Kind::Frame => Printed::RefusalLine(9),
-        Kind::Map => Printed::RefusalLine(9),
-        Kind::Malformed => Printed::RefusalLine(8),
-    }
-}
-
-// One line, without its newline, of any record.
+// One line, without its newline, of any record. One out of its range is refused whatever the line is.
 pub fn step(d: Dock, line: &[u8]) -> Stepped
     ensures { λ r. ⌜ r ≡ stepOf d (now (line .entry)) ⌝ }
 {
     if !record::range::in_range(d) {
         return Stepped {
             dock: d,
-            printed: refusal_of(line),
+            printed: Printed::RefusalLine(9),
         };
     }
     let contacts = d.contacts;

@@ -7,19 +7,15 @@ use Rattle.record.specs.declared.Dock.{Dock}
 use Rattle.record.specs.declared.Rest.{Rest}
 use Rattle.record.specs.Apart.{dockWith}
 use Rattle.lines.specs.Steps.{stepped, stepOf}
+use Rattle.lines.proofs.Printing.{bad-record-steps}
 use Rattle.lines.proofs.step.Statement.{statement}
 use Rattle.lines.proofs.step.Tie as tie
 
 in-range-requires : tie.Need-in-range-requires
 in-range-requires c κs = search needs
 
-refusal-of-requires : tie.Need-refusal-of-requires
-refusal-of-requires c κs = search needs
-
 returns : tie.Need-returns
-returns c =
-    let looked = c .before in
-    c .refusal-of .ensures (looked .before .before .before .args .d) (sym (looked .before .in-range .ensures) ∙ not-true _ (looked .if1 .taken))
+returns c = bad-record-steps _ _ (sym (c .before .in-range .ensures) ∙ not-true _ (c .if1 .taken))
 
 rest-of-requires : tie.Need-rest-of-requires
 rest-of-requires c κs = search needs
@@ -52,7 +48,6 @@ step-spec =
     tie.close
     (tie.spec
     in-range-requires
-    refusal-of-requires
     returns
     rest-of-requires
     step-in-place-requires

@@ -5,7 +5,6 @@ use Rattle.dock.proofs.InRange.{rest-in-range}
 use Rattle.text.specs.declared.Kind.the-variants.{Read, Frame, Scan, Map, Malformed}
 use Rattle.text.proofs.Lengths.{scan-is, frame-is, map-is}
 use Rattle.lines.proofs.Printing.{by-kind}
-use Rattle.record.specs.Apart.{dockWith}
 use Rattle.lines.proofs.step_in_place.Statement.{statement}
 use Rattle.lines.proofs.step_in_place.Tie as tie
 
@@ -58,15 +57,15 @@ enum-told-5 c = search needs
 returns : tie.Need-returns
 returns c =
     let told = c .before .before .before .before .before .before in
-    let a = told .before .before .before .before .args in
-    by-kind (dockWith (a .map .now) (a .closed .now) (a .counts .now) (a .held .now) (a .types .now) (a .r)) _ _ Scan _ (told .before .before .kind-of .ensures) (told .enum-told .given .1) (c .scan-line .ensures)
+    by-kind _ (told .before .before .before .before .pre .0) _ _ Scan _ (told .before .before .kind-of .ensures) (told .enum-told .given .1)
+    (c .scan-line .ensures)
 
 returns-2 : tie.Need-returns-2
 returns-2 c =
     let told = c .before .before .before in
     let s = told .before .before .before .before in
     let a = s .args in
-    by-kind (dockWith (a .map .now) (a .closed .now) (a .counts .now) (a .held .now) (a .types .now) (a .r)) _ _ Read _ (told .before .before .kind-of .ensures) (told .enum-told2 .given .1)
+    by-kind _ (s .pre .0) _ _ Read _ (told .before .before .kind-of .ensures) (told .enum-told2 .given .1)
     (c .read-line .ensures (a .map .now) (a .closed .now) (a .counts .now) (s .pre .0))
 
 returns-3 : tie.Need-returns-3
@@ -74,19 +73,19 @@ returns-3 c =
     let told = c .before .before .before .before .before in
     let s = told .before .before .before .before in
     let a = s .args in
-    by-kind (dockWith (a .map .now) (a .closed .now) (a .counts .now) (a .held .now) (a .types .now) (a .r)) _ _ Frame _ (told .before .before .kind-of .ensures) (told .enum-told3 .given .1)
+    by-kind _ (s .pre .0) _ _ Frame _ (told .before .before .kind-of .ensures) (told .enum-told3 .given .1)
     (c .frame-line .ensures (a .map .now) (s .pre .0))
 
 returns-4 : tie.Need-returns-4
 returns-4 c =
     let told = c .before .before .before .before .before .before in
-    let a = told .before .before .before .before .args in
-    by-kind (dockWith (a .map .now) (a .closed .now) (a .counts .now) (a .held .now) (a .types .now) (a .r)) _ _ Map _ (told .before .before .kind-of .ensures) (told .enum-told4 .given .1) (c .map-line .ensures)
+    by-kind _ (told .before .before .before .before .pre .0) _ _ Map _ (told .before .before .kind-of .ensures) (told .enum-told4 .given .1)
+    (c .map-line .ensures)
 
 returns-5 : tie.Need-returns-5
 returns-5 c =
-    let a = c .before .before .before .before .args in
-    by-kind (dockWith (a .map .now) (a .closed .now) (a .counts .now) (a .held .now) (a .types .now) (a .r)) _ _ Malformed _ (c .before .before .kind-of .ensures) (c .enum-told5 .given .1) refl
+    by-kind _ (c .before .before .before .before .pre .0) _ _ Malformed _ (c .before .before .kind-of .ensures) (c .enum-told5 .given .1)
+    refl
 
 pub step-in-place-spec : {M : Type 1} → statement M
 step-in-place-spec =
