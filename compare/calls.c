@@ -28,7 +28,7 @@ static int independent_letter(void) { return encode(2, KEYDOCK_KEY_A, PRESS, 0, 
 static int proved_wrapped(void)
 {
     return keydock_key_codes(2, KEYDOCK_KEY_UP, KEYDOCK_PRESS, KEYDOCK_TYPEMATIC,
-                             KEYDOCK_SHIFT_LEFT | KEYDOCK_SHIFT_RIGHT, 0, out, sizeof out);
+                             KEYDOCK_HELD_SHIFT_LEFT | KEYDOCK_HELD_SHIFT_RIGHT, 0, out, sizeof out);
 }
 
 static int independent_wrapped(void) { return encode(2, KEYDOCK_KEY_UP, PRESS, 0, MOD_SHIFT, 0, out, sizeof out); }

@@ -59,7 +59,7 @@ static void try_codes(void)
     static const uint8_t wrapped_up[] = {0xE0, 0xF0, 0x12, 0xE0, 0x75};
     uint8_t bytes[ROOM];
     fill(bytes);
-    int32_t count = keydock_key_codes(2, KEYDOCK_KEY_UP, KEYDOCK_PRESS, KEYDOCK_TYPEMATIC, KEYDOCK_SHIFT_LEFT, 0,
+    int32_t count = keydock_key_codes(2, KEYDOCK_KEY_UP, KEYDOCK_PRESS, KEYDOCK_TYPEMATIC, KEYDOCK_HELD_SHIFT_LEFT, 0,
                                       bytes, KEYDOCK_CODES_MAX);
     expect(count == 5 && memcmp(bytes, wrapped_up, sizeof wrapped_up) == 0, "UP with the left SHIFT");
     expect(marked(bytes, count), "the bytes behind the codes are untouched");
@@ -117,13 +117,13 @@ static void try_refusals(void)
 static unsigned event_of(uint32_t set, const uint8_t *bytes, int32_t count, unsigned *key)
 {
     uint32_t state = KEYDOCK_STATE_START;
-    unsigned event = KEYDOCK_MORE;
+    unsigned event = KEYDOCK_READ_MORE;
     *key = 0;
     for (int32_t i = 0; i < count; i++) {
         int32_t answer = keydock_read_byte(set, state, bytes[i]);
         expect(answer >= 0, "the state given can be given back");
         state = KEYDOCK_STATE(answer);
-        if (KEYDOCK_EVENT(answer) == KEYDOCK_MORE || KEYDOCK_EVENT(answer) == KEYDOCK_WRAPPING)
+        if (KEYDOCK_EVENT(answer) == KEYDOCK_READ_MORE || KEYDOCK_EVENT(answer) == KEYDOCK_READ_WRAPPING)
             continue;
         event = KEYDOCK_EVENT(answer);
         *key = KEYDOCK_KEY(answer);
@@ -134,23 +134,24 @@ static unsigned event_of(uint32_t set, const uint8_t *bytes, int32_t count, unsi
 
 static void try_reading(void)
 {
-    static const unsigned events[] = {KEYDOCK_PRESSED, KEYDOCK_RELEASED, KEYDOCK_PRESSED};
+    static const unsigned events[] = {KEYDOCK_READ_PRESSED, KEYDOCK_READ_RELEASED, KEYDOCK_READ_PRESSED};
     uint8_t bytes[KEYDOCK_CODES_MAX];
     unsigned found;
     for (uint32_t set = 1; set <= 3; set++)
         for (uint32_t key = 1; key <= KEYDOCK_KEYS; key++)
             for (uint32_t event = KEYDOCK_PRESS; event <= KEYDOCK_REPEAT; event++) {
                 int32_t count = keydock_key_codes(set, key, event, KEYDOCK_TYPEMATIC_MAKE_BREAK,
-                                                  KEYDOCK_SHIFT_LEFT + KEYDOCK_SHIFT_RIGHT, 0, bytes, sizeof bytes);
+                                                  KEYDOCK_HELD_SHIFT_LEFT + KEYDOCK_HELD_SHIFT_RIGHT, 0,
+                                                  bytes, sizeof bytes);
                 unsigned read = event_of(set, bytes, count, &found);
                 if (key == KEYDOCK_KEY_PAUSE && (set < 3 || event == KEYDOCK_REPEAT))
-                    expect(read == (event == KEYDOCK_PRESS ? KEYDOCK_PAUSE : KEYDOCK_MORE) && found == 0,
+                    expect(read == (event == KEYDOCK_PRESS ? KEYDOCK_READ_PAUSE : KEYDOCK_READ_MORE) && found == 0,
                            "PAUSE is struck by its press alone");
                 else
                     expect(read == events[event] && found == key, "a key reads back");
             }
-    expect(KEYDOCK_EVENT(keydock_read_byte(1, KEYDOCK_STATE_START, 0xFF)) == KEYDOCK_OVERRUN, "FF in set 1");
-    expect(KEYDOCK_EVENT(keydock_read_byte(2, KEYDOCK_STATE_START, 0xFF)) == KEYDOCK_UNKNOWN, "FF in set 2");
+    expect(KEYDOCK_EVENT(keydock_read_byte(1, KEYDOCK_STATE_START, 0xFF)) == KEYDOCK_READ_OVERRUN, "FF in set 1");
+    expect(KEYDOCK_EVENT(keydock_read_byte(2, KEYDOCK_STATE_START, 0xFF)) == KEYDOCK_READ_UNKNOWN, "FF in set 2");
     expect(keydock_read_byte(2, KEYDOCK_STATE_MAX, 0) >= 0, "the last state is one");
     expect(keydock_read_byte(0, KEYDOCK_STATE_MAX + 1, 0) == KEYDOCK_REFUSED_STATE, "a state past the last");
     expect(keydock_read_byte(0, KEYDOCK_STATE_START, 0) == KEYDOCK_REFUSED_CHOICE, "set 0");

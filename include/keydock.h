@@ -6,7 +6,7 @@
  *
  *     uint8_t bytes[KEYDOCK_CODES_MAX];
  *     int32_t count = keydock_key_codes(2, KEYDOCK_KEY_UP, KEYDOCK_PRESS, KEYDOCK_TYPEMATIC,
- *                                       KEYDOCK_SHIFT_LEFT, 0, bytes, sizeof bytes);
+ *                                       KEYDOCK_HELD_SHIFT_LEFT, 0, bytes, sizeof bytes);
  *     for (int32_t i = 0; i < count; i++)
  *         printf("%02X as frame %03X\n", (unsigned)bytes[i], (unsigned)keydock_pack_frame(bytes[i]));
  *
@@ -15,7 +15,7 @@
  *     uint32_t state = KEYDOCK_STATE_START;
  *     for (int32_t i = 0; i < count; i++) {
  *         int32_t answer = keydock_read_byte(2, state, bytes[i]);
- *         if (KEYDOCK_EVENT(answer) == KEYDOCK_PRESSED)
+ *         if (KEYDOCK_EVENT(answer) == KEYDOCK_READ_PRESSED)
  *             printf("key %u was pressed\n", KEYDOCK_KEY(answer));
  *         state = KEYDOCK_STATE(answer);
  *     }
@@ -93,6 +93,7 @@ enum {
     KEYDOCK_KEY_WIN_RIGHT, KEYDOCK_KEY_APP
 };
 
+/* The event of a key: what it does, as keydock_key_codes is asked. */
 enum { KEYDOCK_PRESS = 0, KEYDOCK_RELEASE = 1, KEYDOCK_REPEAT = 2 };
 
 /* A key's type says in set 3 whether it sends a release and whether it repeats. In sets 1
@@ -104,14 +105,15 @@ enum {
     KEYDOCK_TYPEMATIC_MAKE_BREAK = 3 /* both */
 };
 
-/* The modifier keys that are held, added up. They do not matter in set 3. */
+/* The modifier keys that are held, added up. They do not matter in set 3. These are bits and no
+ * keys: as a key, the left SHIFT is KEYDOCK_KEY_SHIFT_LEFT. */
 enum {
-    KEYDOCK_SHIFT_LEFT = 1,
-    KEYDOCK_SHIFT_RIGHT = 2,
-    KEYDOCK_CTRL_LEFT = 4,
-    KEYDOCK_CTRL_RIGHT = 8,
-    KEYDOCK_ALT_LEFT = 16,
-    KEYDOCK_ALT_RIGHT = 32
+    KEYDOCK_HELD_SHIFT_LEFT = 1,
+    KEYDOCK_HELD_SHIFT_RIGHT = 2,
+    KEYDOCK_HELD_CTRL_LEFT = 4,
+    KEYDOCK_HELD_CTRL_RIGHT = 8,
+    KEYDOCK_HELD_ALT_LEFT = 16,
+    KEYDOCK_HELD_ALT_RIGHT = 32
 };
 
 /* Writes to `out` what a key sends and gives the number of bytes, 0 to 8.
@@ -119,7 +121,7 @@ enum {
  *   key        1 to 104
  *   event      KEYDOCK_PRESS, _RELEASE or _REPEAT; a repeat that is not allowed has no bytes
  *   type       KEYDOCK_TYPEMATIC .. KEYDOCK_TYPEMATIC_MAKE_BREAK
- *   modifiers  0 to 63: those held at the event itself
+ *   modifiers  0 to 63: KEYDOCK_HELD_.. of those held at the event itself
  *   num_lock   0 off, 1 on
  *   out        `length` bytes that may be written; it may be NULL if `length` is 0
  *   length     8 or more, even if fewer bytes would do
@@ -134,20 +136,22 @@ int32_t keydock_key_codes(uint32_t set, uint32_t key, uint32_t event, uint32_t t
 #define KEYDOCK_STATE_START 0 /* the state to begin in: nothing of a sequence was read */
 #define KEYDOCK_STATE_MAX 14
 
+/* What keydock_read_byte finds. It is numbered apart from the events that keydock_key_codes is
+ * asked, and is not to be passed to it: KEYDOCK_READ_PRESSED is 1, KEYDOCK_PRESS is 0. */
 enum {
-    KEYDOCK_MORE = 0,     /* the sequence goes on */
-    KEYDOCK_PRESSED = 1,  /* a key was pressed, or repeats */
-    KEYDOCK_RELEASED = 2, /* a key was released */
-    KEYDOCK_PAUSE = 3,    /* PAUSE was struck (sets 1 and 2, where its release sends nothing) */
-    KEYDOCK_WRAPPING = 4, /* shift wrapping or the end of Ctrl-Pause: no key moved */
-    KEYDOCK_OVERRUN = 5,  /* the dock's queue was full: bytes are missing here */
-    KEYDOCK_UNKNOWN = 6   /* no code of this set */
+    KEYDOCK_READ_MORE = 0,     /* the sequence goes on */
+    KEYDOCK_READ_PRESSED = 1,  /* a key was pressed, or repeats */
+    KEYDOCK_READ_RELEASED = 2, /* a key was released */
+    KEYDOCK_READ_PAUSE = 3,    /* PAUSE was struck (sets 1 and 2, where its release sends nothing) */
+    KEYDOCK_READ_WRAPPING = 4, /* shift wrapping or the end of Ctrl-Pause: no key moved */
+    KEYDOCK_READ_OVERRUN = 5,  /* the dock's queue was full: bytes are missing here */
+    KEYDOCK_READ_UNKNOWN = 6   /* no code of this set */
 };
 
 /* Reads one key byte in a set, 1 to 3, and a state, 0 to 14. The answer holds three
  * numbers: KEYDOCK_EVENT, KEYDOCK_KEY (0 unless pressed or released) and KEYDOCK_STATE,
  * the state for the next byte, which is KEYDOCK_STATE_START after every event but
- * KEYDOCK_MORE. KEYDOCK_REFUSED_STATE for a state over KEYDOCK_STATE_MAX, else
+ * KEYDOCK_READ_MORE. KEYDOCK_REFUSED_STATE for a state over KEYDOCK_STATE_MAX, else
  * KEYDOCK_REFUSED_CHOICE for another set; a refusal holds no event, key or state. */
 int32_t keydock_read_byte(uint32_t set, uint32_t state, uint8_t byte);
 
