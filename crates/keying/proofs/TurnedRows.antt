@@ -1,16 +1,17 @@
 -- The rows of a column that turned, one after the other, the lowest first. Assumes nothing.
-use mathlib.Core.Path.{_≡_, refl, sym, ap, subst, _∙_}
+use mathlib.Core.Path.{_≡_, refl, sym, subst, _∙_}
 use mathlib.Core.Bool.{Bool, true, false}
 use mathlib.Core.List.{List, [], _∷_, _++_}
-use Prim.Native.Nat.{ℕ, zero, suc, _+_, _*_, _-_, _%_, _^_, _/_, _<_}
+use Prim.Native.Nat.{ℕ, zero, suc, _+_, _*_, _-_, _<_}
 use native.Mathlib.Omega.{arith}
-use lib.Bits.{bitAnd, bitXor, and-le-r, xor-shr, xor-mod}
+use lib.Bits.{bitAnd, bitXor, and-le-r}
 use lib.Count.{trailingZeros}
 use lib.Dec.{T, eqb, ltb, ltb→lt}
 use lib.ListN.{getD}
 use Rattle.basics.specs.Choice.{pick, both}
 use Rattle.basics.proofs.Tables.{allBelow, below, both-left, both-right}
 use Rattle.contacts.specs.Scans.{rowOf, same}
+use Rattle.contacts.proofs.Bytes.{row-same}
 use Rattle.contacts.proofs.Sameness.{same-is}
 use Rattle.record.specs.declared.Mode.{Mode}
 use Rattle.record.specs.declared.Keys.{Keys}
@@ -30,28 +31,12 @@ onRows [] m types map column is k = k
 onRows (row ∷ rows) m types map column is k =
     onRows rows m types map column is (moved k m types (getD map (8 * column + row) 0) (rowOf is row))
 
--- Two rows are the same exactly if their exclusive or is 0.
-bits-same : (a b : ℕ) → a < 2 → b < 2 → eqb (bitXor a b) 0 ≡ eqb a b
-bits-same zero zero h l = refl
-bits-same zero (suc zero) h l = refl
-bits-same (suc zero) zero h l = refl
-bits-same (suc zero) (suc zero) h l = refl
-bits-same zero (suc (suc b)) h l = absurd (omega arith)
-bits-same (suc zero) (suc (suc b)) h l = absurd (omega arith)
-bits-same (suc (suc a)) b h l = absurd (omega arith)
-
-row-same : (was is row : ℕ) → eqb (rowOf (bitXor was is) row) 0 ≡ eqb (rowOf was row) (rowOf is row)
-row-same was is row =
-    let bit : rowOf (bitXor was is) row ≡ bitXor (rowOf was row) (rowOf is row)
-    = ap (λ (n : ℕ). n % 2) (xor-shr was is row) ∙ xor-mod (was / 2 ^ row) (is / 2 ^ row) 1 in
-    ap (λ (n : ℕ). eqb n 0) bit ∙ bits-same (rowOf was row) (rowOf is row) (omega arith) (omega arith)
-
 -- The lowest row of a byte that is not 0 is one of the eight, and the byte without it has the other rows: computed for all 255.
 isOfEight : ℕ → Bool
-isOfEight byte = ltb (trailingZeros 8 byte) 8
+isOfEight byte = ltb (trailingZeros 32 byte) 8
 
 isFirst : ℕ → Bool
-isFirst byte = same (rowsIn byte) (trailingZeros 8 byte ∷ rowsIn (bitAnd byte (byte - 1)))
+isFirst byte = same (rowsIn byte) (trailingZeros 32 byte ∷ rowsIn (bitAnd byte (byte - 1)))
 
 in-each-byte : T (allBelow (λ less. both (isOfEight (less + 1)) (isFirst (less + 1))) 255)
 unfolding isOfEight isFirst rowsIn rowsBelow trailingZeros same
@@ -68,11 +53,11 @@ module _ (byte : ℕ) (some : 0 < byte) where
         subst (λ (n : ℕ). T (both (isOfEight n) (isFirst n))) its-own
         (below (λ less. both (isOfEight (less + 1)) (isFirst (less + 1))) 255 in-each-byte (byte - 1) (omega arith))
 
-    pub lowest-small : trailingZeros 8 byte < 8
+    pub lowest-small : trailingZeros 32 byte < 8
     unfolding isOfEight
-    lowest-small = ltb→lt (trailingZeros 8 byte) 8 (both-left (isOfEight byte) (isFirst byte) tested)
+    lowest-small = ltb→lt (trailingZeros 32 byte) 8 (both-left (isOfEight byte) (isFirst byte) tested)
 
-    rows-next : rowsIn byte ≡ trailingZeros 8 byte ∷ rowsIn (bitAnd byte (byte - 1))
+    rows-next : rowsIn byte ≡ trailingZeros 32 byte ∷ rowsIn (bitAnd byte (byte - 1))
     unfolding isFirst
     rows-next = same-is _ _ (passed (isFirst byte) (both-right (isOfEight byte) (isFirst byte) tested))
       where
@@ -109,7 +94,7 @@ module _ (m : Mode) (types map : List ℕ) (column is : ℕ) where
   -- The lowest of the rows left is moved, and at last none is left.
   module _ (whole before : Keys) (left : ℕ) (i : whole ≡ onRows (rowsIn left) m types map column is before) where
     pub row-moved : 0 < left → left < 256 → (after : Keys)
-        → after ≡ moved before m types (getD map (8 * column + trailingZeros 8 left) 0) (rowOf is (trailingZeros 8 left))
+        → after ≡ moved before m types (getD map (8 * column + trailingZeros 32 left) 0) (rowOf is (trailingZeros 32 left))
         → whole ≡ onRows (rowsIn (bitAnd left (left - 1))) m types map column is after
     unfolding onRows
     row-moved some small after e = i ∙ rw (rows-next left some small, e)

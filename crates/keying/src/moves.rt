@@ -135,9 +135,9 @@ fn column(
     ensures { λ r. ⌜ keysTold (now (held .exit)) (now (bytes .exit)) r ≡ rowsTo 8 m (now (types .entry)) (now (map .entry)) c was is (keysTold (now (held .entry)) (now (bytes .entry)) t) ⌝ }
 {
     let mut e = t;
-    let mut turned = was ^ is;
+    let mut turned = (was ^ is) as u32;
     while turned != 0 {
-        let r = u8::trailing_zeros(turned) as usize;
+        let r = u32::trailing_zeros(turned) as usize;
         e = contact_turned(
             held,
             bytes,

@@ -24,12 +24,12 @@ modifiersOf held =
     + 8 * flagOf (getD held 58 0) + 16 * flagOf (getD held 55 0) + 32 * flagOf (getD held 57 0)
 
 -- Num Lock is an indicator.
-abbrev pub numLock : Mode → Bool
-numLock m = eqb (m .indicators / 2 % 2) 1
+abbrev pub numLock : ℕ → Bool
+numLock indicators = eqb (indicators / 2 % 2) 1
 
 -- The bytes that an action of a key sends as things stand, by the flags of the held keys.
 abbrev pub sendsWith : List ℕ → Mode → ℕ → ℕ → Action → List ℕ
-sendsWith held m type key action = encode (m .set) key action type (modifiersOf held) (numLock m)
+sendsWith held m type key action = encode (m .set) key action type (modifiersOf held) (numLock (m .indicators))
 
 unfoldable pub sends : Keys → Mode → ℕ → ℕ → Action → List ℕ
 sends k m type key action = sendsWith (k .held) m type key action

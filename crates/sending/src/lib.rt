@@ -6,7 +6,7 @@ use queue::Queue;
 use record::Mode;
 ghost use mathlib.Core.Path.{_≡_};
 ghost use mathlib.Core.Bool.{true, not};
-ghost use Prim.Native.Nat.{_≤_};
+ghost use Prim.Native.Nat.{_+_, _*_, _≤_};
 ghost use lib.ListN.{length};
 ghost use Rattle.basics.specs.Choice.{either};
 ghost use Rattle.codes.specs.declared.Action.the-variants.{Press, Release};
@@ -15,7 +15,7 @@ ghost use Rattle.codes.specs.Sequences.{holding};
 ghost use Rattle.keys.specs.Keys.{markOf, laidOut};
 ghost use Rattle.queue.specs.Queues.{queueWith, tidy, contents};
 ghost use Rattle.record.specs.Range.{goodMode};
-ghost use Rattle.sending.specs.Sending.{flagOf, modifiersOf, sendsWith, queuedOf, shortestRelease};
+ghost use Rattle.sending.specs.Sending.{flagOf, modifiersOf, numLock, sendsWith, queuedOf, shortestRelease};
 
 // A flag that is up counts 1.
 fn flag(x: u8) -> u8
@@ -27,24 +27,42 @@ fn flag(x: u8) -> u8
     1
 }
 
-// The modifier keys among the held ones.
+// Two flags as the two bits of a number.
+fn pair(low: u8, high: u8) -> u8
+    ensures { λ r. ⌜ r ≡ flagOf low + 2 * flagOf high ⌝ }
+{
+    flag(low) + 2 * flag(high)
+}
+
+// The modifier keys among the held ones: SHIFT, CTRL and ALT, the left one the lower bit of each pair.
 fn modifiers_of(held: &[u8; 144]) -> u8
     ensures { λ r. ⌜ r ≡ modifiersOf (now (held .entry)) ⌝ }
 {
-    flag(held[42])
-        + 2 * flag(held[53])
-        + 4 * flag(held[54])
-        + 8 * flag(held[58])
-        + 16 * flag(held[55])
-        + 32 * flag(held[57])
+    let shift = pair(held[42], held[53]);
+    let ctrl = pair(held[54], held[58]);
+    let alt = pair(held[55], held[57]);
+    shift + 4 * ctrl + 16 * alt
+}
+
+// Num Lock is an indicator.
+fn num_lock(indicators: u8) -> bool
+    ensures { λ r. ⌜ r ≡ numLock indicators ⌝ }
+{
+    indicators / 2 % 2 == 1
 }
 
 // The bytes that an action of a key sends.
 pub fn bytes_of(held: &[u8; 144], m: Mode, kind: u8, key: u8, action: Action) -> Sequence
     ensures { λ r. ⌜ r ≡ holding (sendsWith (now (held .entry)) m kind key action) ⌝ }
 {
-    let lock = m.indicators / 2 % 2 == 1;
-    codes::strokes::sequence_of(m.set, key, action, kind, modifiers_of(held), lock)
+    codes::strokes::sequence_of(
+        m.set,
+        key,
+        action,
+        kind,
+        modifiers_of(held),
+        num_lock(m.indicators),
+    )
 }
 
 // The same by a key table at hand. A key of one form does not ask what else is held.
@@ -55,8 +73,15 @@ fn bytes_in(held: &[u8; 144], table: &Table, m: Mode, kind: u8, key: u8, action:
     if !codes::forms::has_forms(m.set, key) {
         return codes::plain::plain_sequence(table, m.set, key, action, kind);
     }
-    let locked = m.indicators / 2 % 2 == 1;
-    codes::strokes::sequence_in(table, m.set, key, action, kind, modifiers_of(held), locked)
+    codes::strokes::sequence_in(
+        table,
+        m.set,
+        key,
+        action,
+        kind,
+        modifiers_of(held),
+        num_lock(m.indicators),
+    )
 }
 
 // The overrun mark of a set.
@@ -74,15 +99,22 @@ pub fn queued(q: Queue, m: Mode, s: Sequence) -> Queue
     queue::pushed(q, s, mark_of(m.set))
 }
 
-// A release that sends nothing: that of PAUSE, which sent all on its press, and in set 3 those of keys whose type sends none.
+// A release that sends nothing: that of PAUSE, which sent all on its press, and in set 3 those of keys whose type sends none. It is
+// asked by branches, since the compiler would else work out both for every key.
 fn is_silent(set: u8, key: u8, kind: u8) -> bool
     requires { ⌜ (1 ≤ set) × (set ≤ 3) ⌝ }
     ensures { λ r. ⌜ r ≡ either (pausesAtOnce set key) (not (sendsRelease set kind)) ⌝ }
 {
     if set == 3 {
-        return (kind != keys::MAKE_BREAK) & (kind != keys::TYPEMATIC_MAKE_BREAK);
+        if (kind != keys::MAKE_BREAK) & (kind != keys::TYPEMATIC_MAKE_BREAK) {
+            return true;
+        }
+    } else {
+        if key == codes::PAUSE {
+            return true;
+        }
     }
-    key == codes::PAUSE
+    false
 }
 
 // The bytes that any other release has at least.

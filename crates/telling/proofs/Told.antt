@@ -69,7 +69,7 @@ module _ (m : Mode) (h : (m .set ≡ 1) ⊎ (m .set ≡ 2)) (t : Terminal) where
   pressed-told k type key low high room p =
       record {
         told = behind k _ _ (pressed-whole m k type key room) p
-            ∙ press-heard (m .set) h key low high type (modifiersOf (k .held)) (numLock m) (k .held);
+            ∙ press-heard (m .set) h key low high type (modifiersOf (k .held)) (numLock (m .indicators)) (k .held);
       }
 
   pub released-told : (k : Keys) (type key : ℕ) → 1 ≤ key → key ≤ 104 → Fits k m type key Release
@@ -78,7 +78,7 @@ module _ (m : Mode) (h : (m .set ≡ 1) ⊎ (m .set ≡ 2)) (t : Terminal) where
   released-told k type key low high room p =
       record {
         told = behind k _ _ (released-whole m k type key room) p
-            ∙ release-heard (m .set) h key low high type (modifiersOf (k .held)) (numLock m) (k .held);
+            ∙ release-heard (m .set) h key low high type (modifiersOf (k .held)) (numLock (m .indicators)) (k .held);
       }
 
   module _ (types : List ℕ) where
@@ -124,7 +124,7 @@ module _ (m : Mode) (h : (m .set ≡ 1) ⊎ (m .set ≡ 2)) (t : Terminal) where
               let other = eqb-false key 0 (not-true _ (left-of-both (not (eqb key 0)) (eqb (k .clock) 0) due)) in
               let down : getD (k .held) key 0 ≡ 1 = ⊎-elim (λ z. absurd (other z)) (λ d. d) held in
               rw (waiting-queueOf, told-empty (m .set) t k (none now) p)
-              (repeat-heard (m .set) h key (omega arith) high type (modifiersOf (k .held)) (numLock m) (k .held) down))
+              (repeat-heard (m .set) h key (omega arith) high type (modifiersOf (k .held)) (numLock (m .indicators)) (k .held) down))
               (λ later. p .told);
         })
         (record { told = p .told }))

@@ -15,16 +15,19 @@ plain-sequence-requires c κs = (c .before .before .pre, sym (c .before .has-for
 returns : tie.Need-returns
 returns c =
     let a = c .before .before .before .args in
-    c .plain-sequence .ensures (modifiersOf (a .held .now)) (numLock (a .m))
+    c .plain-sequence .ensures (modifiersOf (a .held .now)) (numLock (a .m .indicators))
 
 modifiers-of-requires : tie.Need-modifiers-of-requires
 modifiers-of-requires c κs = search needs
+
+num-lock-requires : tie.Need-num-lock-requires
+num-lock-requires c κs = search needs
 
 sequence-in-requires : tie.Need-sequence-in-requires
 sequence-in-requires c κs = search needs
 
 returns-2 : tie.Need-returns-2
-returns-2 c = rw (c .before .modifiers-of .ensures) at (c .sequence-in .ensures)
+returns-2 c = rw (c .before .before .modifiers-of .ensures, c .before .num-lock .ensures) at (c .sequence-in .ensures)
 
 pub bytes-in-spec : {M : Type 1} → statement M
 bytes-in-spec =
@@ -34,5 +37,6 @@ bytes-in-spec =
     plain-sequence-requires
     returns
     modifiers-of-requires
+    num-lock-requires
     sequence-in-requires
     returns-2)

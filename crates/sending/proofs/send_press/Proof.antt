@@ -20,7 +20,7 @@ returns c =
     let s = c .before .before in
     let a = s .args in
     full-marks (a .bytes .now) (a .at) (a .m) _ (s .pre .0) (s .pre .1) _ (c .mark-of .ensures) (c .before .if1 .taken)
-    (press-some (a .m .set) (a .key) (a .kind) (modifiersOf (a .held .now)) (numLock (a .m)))
+    (press-some (a .m .set) (a .key) (a .kind) (modifiersOf (a .held .now)) (numLock (a .m .indicators)))
 
 bytes-in-requires : tie.Need-bytes-in-requires
 bytes-in-requires c κs = search needs

@@ -21,7 +21,7 @@ returns c =
     let s = c .before .before in
     let a = s .args in
     nothing-queued (a .bytes .now) (a .at) (a .m) _ (s .pre .0) (s .pre .1)
-    (release-none (a .m .set) (a .key) (a .kind) (modifiersOf (a .held .now)) (numLock (a .m)) _ (c .before .is-silent .ensures) (c .if1 .taken))
+    (release-none (a .m .set) (a .key) (a .kind) (modifiersOf (a .held .now)) (numLock (a .m .indicators)) _ (c .before .is-silent .ensures) (c .if1 .taken))
 
 sub-if2 : tie.Need-sub-if2
 sub-if2 c = tidy-short _ (c .before .before .pre .0)
@@ -48,7 +48,7 @@ returns-2 c =
     let s = e .before .before in
     let a = s .args in
     let least = t .before .shortest-release .ensures in
-    let long = release-long (a .m .set) (a .key) (a .kind) (modifiersOf (a .held .now)) (numLock (a .m)) _ (e .before .is-silent .ensures) (e .if1 .left) in
+    let long = release-long (a .m .set) (a .key) (a .kind) (modifiersOf (a .held .now)) (numLock (a .m .indicators)) _ (e .before .is-silent .ensures) (e .if1 .left) in
     no-room-marks (a .bytes .now) (a .at) (a .m) _ (s .pre .0) (s .pre .1) _ (c .mark-of .ensures)
     (little-room (a .m .set) _ _ least (t .if2 .taken)) (too-long (a .m .set) _ _ _ least long (t .if2 .taken))
 

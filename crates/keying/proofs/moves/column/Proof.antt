@@ -25,6 +25,11 @@ Inv-loop held₀ bytes₀ table m types map c was is e₀ turned₀ held bytes e
 abbrev μ-loop : tie.MeasureT-loop
 μ-loop held₀ bytes₀ table m types map c was is e₀ turned₀ held bytes e turned = turned
 
+cast-turned : tie.Need-cast-turned Inv-loop μ-loop
+cast-turned c =
+    let a = c .args in
+    omega (arith, xor-lt 8 (a .was) (a .is) (omega arith) (omega arith))
+
 loop-holds : tie.Need-loop-holds Inv-loop μ-loop
 loop-holds c =
     let a = c .args in
@@ -32,13 +37,13 @@ loop-holds c =
     (xor-lt 8 (a .was) (a .is) (omega arith) (omega arith), c .pre .0, c .pre .2, all)
 
 cast-r : tie.Need-cast-r Inv-loop μ-loop
-cast-r c = omega (arith, trailing-le 8 (c .before .loop .turned))
+cast-r c = omega (arith, trailing-le 32 (c .before .loop .turned))
 
 mul-contact-turned : tie.Need-mul-contact-turned Inv-loop μ-loop
 mul-contact-turned c = omega arith
 
 add-contact-turned : tie.Need-add-contact-turned Inv-loop μ-loop
-add-contact-turned c = omega (arith, trailing-le 8 (c .before .before .before .loop .turned))
+add-contact-turned c = omega (arith, trailing-le 32 (c .before .before .before .loop .turned))
 
 element-copy-out-contact-turned : tie.Need-element-copy-out-contact-turned Inv-loop μ-loop
 element-copy-out-contact-turned c =
@@ -46,7 +51,7 @@ element-copy-out-contact-turned c =
     omega (arith, lowest-small (l .turned) (omega arith) (l .inv .0))
 
 cast-contact-turned : tie.Need-cast-contact-turned Inv-loop μ-loop
-cast-contact-turned c = omega (arith, trailing-le 8 (c .before .before .before .before .loop .turned))
+cast-contact-turned c = omega (arith, trailing-le 32 (c .before .before .before .before .loop .turned))
 
 shr-contact-turned : tie.Need-shr-contact-turned Inv-loop μ-loop
 shr-contact-turned c =
@@ -89,6 +94,7 @@ column-spec =
     (tie.spec
     Inv-loop
     μ-loop
+    cast-turned
     loop-holds
     cast-r
     mul-contact-turned
