@@ -37,7 +37,7 @@ middle : (first second third : Bool) → first ≡ false → third ≡ false →
 middle first true third f t e = refl
 middle first false third f t e = rw (f, t) at e
 
--- A byte that clears is F0 or more, and not FE.
+-- A byte that clears is a command, so ED or more, and it is not FE.
 clears-high : (byte : ℕ) → clears byte ≡ true → leb 0xed byte ≡ true
 unfolding clears
 clears-high byte c = go (leb 0xed byte) refl

@@ -139,7 +139,7 @@ module _ (byte : ℕ) where
   equal : Mild byte → (n : ℕ) → 0xf4 ≤ n → n ≤ 0xfd → eqb byte n ≡ true → ⊥
   equal m n a b h = let is = eqb-true byte n h in ⊎-elim (λ l. omega arith) (λ l. omega arith) (m .apart)
 
-  -- A mild command changes no part that matters.
+  -- A mild command changes nothing.
   pub obeyed-mild : (d : Dock) → Mild byte → obeyed byte d ≡ d
   unfolding obeyed
   obeyed-mild d m =

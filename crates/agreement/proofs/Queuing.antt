@@ -25,9 +25,8 @@ use Rattle.record.specs.declared.Dock.{Dock}
 use Rattle.record.specs.Parts.{withKeys}
 use Rattle.record.specs.Range.{inRange}
 use Rattle.runs.specs.Calls.{Scan, isAccepted}
-use Rattle.runs.specs.Runs.{overruns}
+use Rattle.runs.specs.Runs.{changesOverrun, overruns}
 use Rattle.runs.specs.Bytes.{repeatBytes, changeBytes, heardBytes, closingBytes, scanBytes, queuedBy}
-use Rattle.telling.specs.Overruns.{overrunsTo}
 use Rattle.telling.specs.Queued.{turnBytes}
 use Rattle.basics.proofs.Cases.{two-by-cases}
 use Rattle.telling.proofs.Whole.{turns-whole, handed-whole}
@@ -71,12 +70,8 @@ module _ (d : Dock) (scan : List ℕ) where
   still : Dock
   still = withKeys d (ticked (d .keys))
 
-  -- Its changes, if it is counted.
-  Turns : Bool
-  Turns = overrunsTo 144 (d .mode) (d .types) (d .map) (d .contacts .closed) (countedOf (d .contacts) scan .closed) (ticked (d .keys))
-
-  heard-bytes : both (not (isPhantom scan)) Turns ≡ false → bytesOf (heardScan d scan) ≡ bytesOf d ++ heardBytes d scan
-  unfolding still Turns heardScan heardBytes changed changeBytes counting
+  heard-bytes : both (not (isPhantom scan)) (changesOverrun d scan) ≡ false → bytesOf (heardScan d scan) ≡ bytesOf d ++ heardBytes d scan
+  unfolding still changesOverrun heardScan heardBytes changed changeBytes counting
   heard-bytes = go (isPhantom scan)
     where
       turned : List ℕ
@@ -85,7 +80,7 @@ module _ (d : Dock) (scan : List ℕ) where
       repeats : Dock → List ℕ
       repeats e = repeatBytes (e .keys) (e .mode) (e .types) (quiet e)
 
-      go : (phantom : Bool) → both (not phantom) Turns ≡ false
+      go : (phantom : Bool) → both (not phantom) (changesOverrun d scan) ≡ false
           → bytesOf (repeating (pick phantom still (counting still scan)))
           ≡ bytesOf d ++ (pick phantom [] turned ++ repeats (pick phantom still (counting still scan)))
       go true room = repeating-bytes still
@@ -97,10 +92,10 @@ module _ (d : Dock) (scan : List ℕ) where
           ∙ append-assoc (bytesOf d) turned (repeats then)
 
   scanned-bytes : overruns d scan ≡ false → bytesOf (scanned d scan) ≡ bytesOf d ++ scanBytes d scan
-  unfolding scanned scanBytes overruns isCounted Turns
+  unfolding scanned scanBytes overruns isCounted
   scanned-bytes = go (listening d)
     where
-      go : (hears : Bool) → both (both hears (not (isPhantom scan))) Turns ≡ false
+      go : (hears : Bool) → both (both hears (not (isPhantom scan))) (changesOverrun d scan) ≡ false
           → bytesOf (pick hears (heardScan d scan) (closing d)) ≡ bytesOf d ++ pick hears (heardBytes d scan) (closingBytes d)
       go true room = heard-bytes room
       go false room = closing-bytes d

@@ -24,9 +24,8 @@ use Rattle.record.specs.declared.Dock.{Dock}
 use Rattle.record.specs.Parts.{withKeys}
 use Rattle.record.specs.Range.{inRange}
 use Rattle.runs.specs.Calls.{isAccepted}
-use Rattle.runs.specs.Runs.{overruns}
+use Rattle.runs.specs.Runs.{changesOverrun, overruns}
 use Rattle.runs.specs.Worlds.{scansAfterScan}
-use Rattle.telling.specs.Overruns.{overrunsTo}
 use Rattle.telling.proofs.Held.{turns-agree}
 use Rattle.telling.proofs.Repeating.{turns-repeat, turns-outside, repeated-repeats, repeated-held}
 use Rattle.telling.proofs.Told.{ticked-told, turns-told, repeated-told}
@@ -139,14 +138,9 @@ module _ (t : Terminal) where
             (λ e. none-wait q (eqb-true (q .length) 0 (right-of-both (eqb (d .replies .length) 0) (eqb (q .length) 0) e))) (f .told);
       }
 
-  -- What turns in a scan, if it is counted.
-  Turns : Dock → List ℕ → Bool
-  Turns d scan =
-      overrunsTo 144 (d .mode) (d .types) (d .map) (d .contacts .closed) (countedOf (d .contacts) scan .closed) (ticked (d .keys))
-
-  counting-follows : (d : Dock) (scans : List (List ℕ)) (scan : List ℕ) → IsReady d scans → Turns d scan ≡ false → Follows d t
+  counting-follows : (d : Dock) (scans : List (List ℕ)) (scan : List ℕ) → IsReady d scans → changesOverrun d scan ≡ false → Follows d t
       → Follows (counting (withKeys d (ticked (d .keys))) scan) t
-  unfolding counting Turns
+  unfolding counting changesOverrun
   counting-follows d scans scan r room f =
       record {
         chosen = f .chosen;
@@ -156,7 +150,7 @@ module _ (t : Terminal) where
       }
 
   module _ (d : Dock) (scans : List (List ℕ)) (scan : List ℕ) (s : Settled d scans) (f : Follows d t) where
-    heard-follows : d .handover ≡ false → both (not (isPhantom scan)) (Turns d scan) ≡ false → Follows (heardScan d scan) t
+    heard-follows : d .handover ≡ false → both (not (isPhantom scan)) (changesOverrun d scan) ≡ false → Follows (heardScan d scan) t
     unfolding heardScan changed counting
     heard-follows shut = go (isPhantom scan)
       where
@@ -166,17 +160,17 @@ module _ (t : Terminal) where
         ready : IsReady still scans
         ready = ticked-ready d scans shut (s .ready)
 
-        go : (phantom : Bool) → both (not phantom) (Turns d scan) ≡ false → Follows (repeating (pick phantom still (counting still scan))) t
+        go : (phantom : Bool) → both (not phantom) (changesOverrun d scan) ≡ false → Follows (repeating (pick phantom still (counting still scan))) t
         go true room = repeated-follows still scans ready (ticked-follows d f)
         go false room =
             repeated-follows (counting still scan) (scans ++ (scan ∷ [])) (turned-ready d scans shut scan (ticked (d .keys)) ready)
             (counting-follows d scans scan (s .ready) room f)
 
     scanned-follows : overruns d scan ≡ false → Follows (scanned d scan) t
-    unfolding scanned overruns isCounted Turns
+    unfolding scanned overruns isCounted
     scanned-follows = go (listening d) refl
       where
-        go : (hears : Bool) → listening d ≡ hears → both (both hears (not (isPhantom scan))) (Turns d scan) ≡ false
+        go : (hears : Bool) → listening d ≡ hears → both (both hears (not (isPhantom scan))) (changesOverrun d scan) ≡ false
             → Follows (pick hears (heardScan d scan) (closing d)) t
         go true e room = heard-follows (listening-shut d e) room
         go false e room = closing-follows d t f

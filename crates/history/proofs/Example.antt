@@ -1,4 +1,5 @@
--- What the rule of three in a row says of a few scans, computed, so that a reader can hold it against the paper. Assumes nothing.
+-- What the rule of three in a row says of a few scans, computed, so that a reader can hold it against section 5 of docs/RULES.md.
+-- Assumes nothing.
 use mathlib.Core.Path.{_≡_, refl}
 use mathlib.Core.Bool.{true, false}
 use mathlib.Core.List.{[], _∷_}

@@ -33,10 +33,36 @@ use Rattle.terminal.specs.Terminals.{begun, hears}
 use Rattle.runs.specs.Bytes.{givenIn}
 use Rattle.runs.specs.Calls.{clears, isClearing}
 use Rattle.runs.specs.Worlds.{woken, isReset, scansAfterScan, scansAfterSwap, scansAfterFrame, next, afterCalls}
-use Rattle.runs.specs.Runs.{mayBegin, overruns, undisturbed}
+use Rattle.runs.specs.Runs.{mayBegin, changesOverrun, overruns, undisturbed}
 use Rattle.runs.specs.Stories.{Story, outcome, flagged, saidFrom, host, nothing, showing, showingToo}
 use Rattle.runs.specs.Told.{stories, limestone, heldOn, repeated as repeatedStory, leftAlone, shiftedCursor, shiftedCursorInSet1, twelve, twelvePressed, twelveReleased, longHandover, secondSwap, waitingCommand, thirdScan, pauseStruck, refusals}
 
+-- The list names every unfoldable definition that a story computes through, crate by crate. If one is missing, the two sides stand
+-- still and `refl` is refused: add it here.
 pub all-as-told : map (λ (s : Story). outcome (s .earlier) (s .calls)) stories ≡ map (λ (s : Story). s .end) stories
-unfolding ones onesIn allUpTo countUp plainMap defaultTypes freshWith powerOn inRange goodMode goodKeys waiting queueOf tidy waitingReplies repliesOf tidyReplies pushedTo lastReplaced rows rowOf codeIn keyWith firstWith encode bytesOf formOf cursorForm shiftForm printForm pauseForm before after makeOf breakOf prefix codeOf sendsRelease mayRepeat pauseBytes contact same isPhantom sharesAny countedOf modifiersOf sends queuedOf pressed releasedWith released moved turned turnsTo delayOf intervalOf repeated handedFrom parity packedOf whole unpackedOf obeyed replyTo commanded rightValue valued given tookByte isIn hasDouble closing listening isCounted counting changed repeating heardScan scanned scanOf opened remapped swapped swapOf tookFrame frameOf remembering replyTaken keyByteTaken read readOf heard inSet1 inSet2 inSet3 readByte threeFirst threeInARow saysClosed shownAt lacksRoom overrunsAt overrunsTo begun hears clears isClearing isReset woken scansAfterScan scansAfterSwap scansAfterFrame next afterCalls mayBegin overruns undisturbed outcome flagged saidFrom host nothing showing showingToo stories limestone heldOn repeatedStory leftAlone shiftedCursor shiftedCursorInSet1 twelve twelvePressed twelveReleased givenIn longHandover secondSwap waitingCommand thirdScan pauseStruck refusals
+unfolding
+    ones onesIn
+    allUpTo
+    countUp plainMap defaultTypes freshWith powerOn inRange goodMode goodKeys
+    waiting queueOf tidy waitingReplies repliesOf tidyReplies pushedTo lastReplaced
+    rows rowOf codeIn
+    keyWith firstWith
+    encode bytesOf formOf cursorForm shiftForm printForm pauseForm before after makeOf breakOf prefix codeOf sendsRelease
+    mayRepeat pauseBytes
+    contact same isPhantom sharesAny countedOf
+    modifiersOf sends queuedOf
+    pressed releasedWith released moved turned turnsTo delayOf intervalOf repeated handedFrom
+    parity packedOf whole unpackedOf
+    obeyed replyTo commanded rightValue valued given tookByte
+    isIn hasDouble
+    closing listening isCounted counting changed repeating heardScan scanned scanOf opened remapped swapped swapOf tookFrame
+    frameOf remembering replyTaken keyByteTaken read readOf
+    heard inSet1 inSet2 inSet3 readByte
+    threeFirst threeInARow saysClosed shownAt
+    lacksRoom overrunsAt overrunsTo
+    begun hears
+    clears isClearing isReset woken scansAfterScan scansAfterSwap scansAfterFrame next afterCalls mayBegin changesOverrun
+    overruns undisturbed outcome flagged saidFrom host nothing showing showingToo stories limestone heldOn repeatedStory
+    leftAlone shiftedCursor shiftedCursorInSet1 twelve twelvePressed twelveReleased givenIn longHandover secondSwap
+    waitingCommand thirdScan pauseStruck refusals
 all-as-told = refl

@@ -24,11 +24,14 @@ mayBegin d =
 abbrev pub beginning : World → World
 beginning w = world (w .dock) (w .scans) begun
 
--- A scan overruns the queue: it is counted, and one of its changes does not fit.
+-- The changes of a scan overrun the queue: one of them does not fit.
+unfoldable pub changesOverrun : Dock → List ℕ → Bool
+changesOverrun d scan =
+    overrunsTo 144 (d .mode) (d .types) (d .map) (d .contacts .closed) (countedOf (d .contacts) scan .closed) (ticked (d .keys))
+
+-- A scan overruns the queue: it is counted, and its changes do.
 unfoldable pub overruns : Dock → List ℕ → Bool
-overruns d scan =
-    both (isCounted d scan)
-    (overrunsTo 144 (d .mode) (d .types) (d .map) (d .contacts .closed) (countedOf (d .contacts) scan .closed) (ticked (d .keys)))
+overruns d scan = both (isCounted d scan) (changesOverrun d scan)
 
 -- A call overruns the queue; only a scan can.
 abbrev pub overrunsIn : Dock → Call → Bool

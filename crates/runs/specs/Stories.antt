@@ -64,13 +64,15 @@ pub record Story : Type 0 where
   pub calls : List Call
   pub end : Outcome
 
+-- A story of these parts.
 abbrev pub story : List Call → List Call → Outcome → Story
 story earlier calls end = record { earlier = earlier; calls = calls; end = end }
 
--- So many reads; a byte from the host, and the read of its reply.
+-- So many reads.
 abbrev pub reads : ℕ → List Call
 reads n = replicate n Read
 
+-- A byte from the host, and the read of its reply.
 unfoldable pub host : ℕ → List Call
 host byte = Frame (frameOf byte) ∷ Read ∷ []
 
@@ -78,12 +80,14 @@ host byte = Frame (frameOf byte) ∷ Read ∷ []
 abbrev pub scans : ℕ → List ℕ → List Call
 scans n scan = replicate n (Scan scan)
 
--- Scans of a plain panel with nothing closed, with one column like this, and with another column too.
+-- A scan of a plain panel with nothing closed,
 unfoldable pub nothing : List ℕ
 nothing = replicate 18 0
 
+-- with one column like this,
 unfoldable pub showing : ℕ → ℕ → List ℕ
 showing column rows = set (replicate 18 0) column rows
 
+-- and with another column too.
 unfoldable pub showingToo : ℕ → ℕ → List ℕ → List ℕ
 showingToo column rows scan = set scan column rows

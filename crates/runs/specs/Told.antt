@@ -50,10 +50,11 @@ shiftedCursorInSet1 =
 unfoldable pub twelve : List ℕ
 twelve = showingToo 4 1 (showingToo 3 1 (showingToo 2 1 (showingToo 1 1 (showing 0 0xff))))
 
--- Their bytes when they are pressed, and when they are released.
+-- Their bytes when they are pressed,
 unfoldable pub twelvePressed : List ℕ
 twelvePressed = 0x0e ∷ 0x16 ∷ 0x1e ∷ 0x26 ∷ 0x25 ∷ 0x2e ∷ 0x36 ∷ 0x3d ∷ 0x3e ∷ 0x1d ∷ 0x4d ∷ 0x2b ∷ []
 
+-- and when they are released.
 unfoldable pub twelveReleased : List ℕ
 twelveReleased =
     0xf0 ∷ 0x0e ∷ 0xf0 ∷ 0x16 ∷ 0xf0 ∷ 0x1e ∷ 0xf0 ∷ 0x26 ∷ 0xf0 ∷ 0x25 ∷ 0xf0 ∷ 0x2e ∷ 0xf0 ∷ 0x36

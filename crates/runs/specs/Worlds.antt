@@ -1,5 +1,6 @@
 -- A dock, the scans that it counted, and a terminal that reads its key bytes (docs/RULES.md, section 13). Each call is the very one
 -- that the dock's functions promise. Assumes nothing.
+-- Edits of must-fail/ put what they import in the place of these two lines: change them there, too.
 use Prim.Native.Nat.{ℕ}
 use mathlib.Core.Bool.{Bool}
 use mathlib.Core.List.{List, [], _∷_, _++_}
@@ -24,6 +25,7 @@ pub record World : Type 0 where
   pub scans : List (List ℕ)
   pub terminal : Terminal
 
+-- A world of these parts.
 abbrev pub world : Dock → List (List ℕ) → Terminal → World
 world dock scans terminal = record { dock = dock; scans = scans; terminal = terminal }
 
@@ -35,14 +37,15 @@ woken = world powerOn [] begun
 unfoldable pub scansAfterScan : Dock → List (List ℕ) → List ℕ → List (List ℕ)
 scansAfterScan d scans scan = pick (both (isAccepted (scanOf d scan .answer)) (isCounted d scan)) (scans ++ (scan ∷ [])) scans
 
--- After a swap there are none, if it was accepted,
+-- After a swap there are none, if it was accepted.
 unfoldable pub scansAfterSwap : Dock → List (List ℕ) → List ℕ → List (List ℕ)
 scansAfterSwap d scans map = pick (isAccepted (swapOf d map .answer)) [] scans
 
--- nor after a frame that brought FF, the reset.
+-- A frame whose byte is FF, the reset.
 unfoldable pub isReset : ℕ → Bool
 isReset number = carries (λ byte. eqb byte 0xff) (unpackedOf number)
 
+-- After a frame there are none, if it was accepted and is a reset.
 unfoldable pub scansAfterFrame : Dock → List (List ℕ) → ℕ → List (List ℕ)
 scansAfterFrame d scans number = pick (both (isAccepted (frameOf d number .answer)) (isReset number)) [] scans
 

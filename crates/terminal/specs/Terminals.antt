@@ -1,4 +1,4 @@
--- A terminal reads key bytes and keeps which keys are down (docs/RULES.md, section 4). Assumes nothing.
+-- A terminal reads key bytes and keeps which keys are down (docs/RULES.md, sections 4 and 13). Assumes nothing.
 use Prim.Native.Nat.{ℕ}
 use mathlib.Core.Bool.{Bool, not}
 use mathlib.Core.List.{List, [], _∷_}
@@ -13,6 +13,7 @@ pub record Terminal : Type 0 where
   pub state : ℕ
   pub down : List ℕ
 
+-- A terminal of these parts.
 abbrev pub terminal : ℕ → List ℕ → Terminal
 terminal state down = record { state = state; down = down }
 
