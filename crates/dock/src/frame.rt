@@ -1,15 +1,11 @@
 // A frame from the host.
 use crate::Answer;
-use crate::Answered;
 use crate::Done;
 use crate::closing::close_in_place;
 use frames::Unpacked;
 use host::reply;
 use host::take;
-use record::Dock;
 use record::Rest;
-use record::apart::dock_with;
-use record::apart::rest_of;
 ghost use mathlib.Core.Path.{_≡_};
 ghost use mathlib.Core.Bool.{true};
 ghost use mathlib.Core.List.{List};
@@ -49,32 +45,5 @@ pub fn frame_in_place(
                 rest: close_in_place(held, types, e),
             }
         }
-    }
-}
-
-// The frame call: a record out of its range is refused first.
-pub fn frame(d: Dock, number: u32) -> Answered
-    ensures { λ r. ⌜ r ≡ frameOf d number ⌝ }
-{
-    if !record::range::in_range(d) {
-        return Answered {
-            answer: Answer::BadRecord,
-            dock: d,
-        };
-    }
-    let contacts = d.contacts;
-    let keys = d.keys;
-    let map = d.map;
-    let mut closed = contacts.closed;
-    let mut counts = contacts.counts;
-    let mut held = keys.held;
-    let mut types = d.types;
-    let r = rest_of(d);
-    let x = frame_in_place(&mut closed, &mut counts, &mut held, &mut types, r, number);
-    let answer = x.answer;
-    let rest = x.rest;
-    Answered {
-        answer,
-        dock: dock_with(map, closed, counts, held, types, rest),
     }
 }

@@ -1,6 +1,6 @@
-// The dock (docs/RULES.md): one module for each call. Every call takes any record and gives it back beside its answer. A refused
-// call gives it back as it was. A caller that knows its record to be in range has each call in place, where nothing is looked at again:
-// the arrays are lent, and only the rest is passed.
+// The dock (docs/RULES.md): one module for each call, in place. The record is in its range, and nothing is looked at again: the arrays are
+// lent, and only the rest is passed. A refused call leaves the record as it was. `Answered` and `Taken` hold a whole record: with them the
+// definitions say what a call gives, whatever record it is given.
 use record::Dock;
 use record::Rest;
 

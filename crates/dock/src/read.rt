@@ -1,12 +1,8 @@
 // The next byte for the host.
 use crate::Gave;
 use crate::Given;
-use crate::Taken;
 use crate::closing::close_in_place;
-use record::Dock;
 use record::Rest;
-use record::apart::dock_with;
-use record::apart::rest_of;
 ghost use mathlib.Core.Path.{_≡_};
 ghost use mathlib.Core.Bool.{true};
 ghost use mathlib.Core.List.{List};
@@ -78,32 +74,5 @@ pub fn read_in_place(held: &mut [u8; 144], types: &[u8; 105], r: Rest) -> Gave
     Gave {
         given: Given::Nothing,
         rest: close_in_place(held, types, r),
-    }
-}
-
-// The read call: a record out of its range is refused.
-pub fn read(d: Dock) -> Taken
-    ensures { λ r. ⌜ r ≡ readOf d ⌝ }
-{
-    if !record::range::in_range(d) {
-        return Taken {
-            given: Given::Refused,
-            dock: d,
-        };
-    }
-    let contacts = d.contacts;
-    let keys = d.keys;
-    let map = d.map;
-    let closed = contacts.closed;
-    let counts = contacts.counts;
-    let mut held = keys.held;
-    let types = d.types;
-    let r = rest_of(d);
-    let x = read_in_place(&mut held, &types, r);
-    let given = x.given;
-    let rest = x.rest;
-    Taken {
-        given,
-        dock: dock_with(map, closed, counts, held, types, rest),
     }
 }

@@ -1,12 +1,8 @@
 // A scan of the panel.
 use crate::Answer;
-use crate::Answered;
 use crate::Done;
 use crate::closing::close_in_place;
-use record::Dock;
 use record::Rest;
-use record::apart::dock_with;
-use record::apart::rest_of;
 ghost use mathlib.Core.Path.{_≡_};
 ghost use mathlib.Core.Bool.{true};
 ghost use mathlib.Core.List.{List};
@@ -134,32 +130,5 @@ pub fn scan_in_place(
     Done {
         answer: Answer::Accepted,
         rest: hear(map, closed, counts, held, types, r, scan),
-    }
-}
-
-// The scan call: a record out of its range is refused first.
-pub fn scan(d: Dock, scan: &[u8]) -> Answered
-    ensures { λ r. ⌜ r ≡ scanOf d (now (scan .entry)) ⌝ }
-{
-    if !record::range::in_range(d) {
-        return Answered {
-            answer: Answer::BadRecord,
-            dock: d,
-        };
-    }
-    let contacts = d.contacts;
-    let keys = d.keys;
-    let map = d.map;
-    let mut closed = contacts.closed;
-    let mut counts = contacts.counts;
-    let mut held = keys.held;
-    let types = d.types;
-    let r = rest_of(d);
-    let x = scan_in_place(&map, &mut closed, &mut counts, &mut held, &types, r, scan);
-    let answer = x.answer;
-    let rest = x.rest;
-    Answered {
-        answer,
-        dock: dock_with(map, closed, counts, held, types, rest),
     }
 }

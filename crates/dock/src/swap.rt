@@ -1,14 +1,10 @@
 // Another panel.
 use crate::Answer;
-use crate::Answered;
 use crate::Done;
 use crate::closing::go_on;
 use maps::copied;
 use maps::has_double;
-use record::Dock;
 use record::Rest;
-use record::apart::dock_with;
-use record::apart::rest_of;
 ghost use mathlib.Core.Path.{_≡_};
 ghost use mathlib.Core.Bool.{true};
 ghost use mathlib.Core.List.{List};
@@ -75,40 +71,5 @@ pub fn swap_in_place(
     Done {
         answer: Answer::Accepted,
         rest: go_on(held, types, e),
-    }
-}
-
-// The swap call: a record out of its range is refused first.
-pub fn swap(d: Dock, new: &[u8]) -> Answered
-    ensures { λ r. ⌜ r ≡ swapOf d (now (new .entry)) ⌝ }
-{
-    if !record::range::in_range(d) {
-        return Answered {
-            answer: Answer::BadRecord,
-            dock: d,
-        };
-    }
-    let contacts = d.contacts;
-    let keys = d.keys;
-    let mut map = d.map;
-    let mut closed = contacts.closed;
-    let mut counts = contacts.counts;
-    let mut held = keys.held;
-    let types = d.types;
-    let r = rest_of(d);
-    let x = swap_in_place(
-        &mut map,
-        &mut closed,
-        &mut counts,
-        &mut held,
-        &types,
-        r,
-        new,
-    );
-    let answer = x.answer;
-    let rest = x.rest;
-    Answered {
-        answer,
-        dock: dock_with(map, closed, counts, held, types, rest),
     }
 }

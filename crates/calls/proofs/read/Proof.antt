@@ -1,16 +1,16 @@
--- `dock::read::read` meets its contract: a record in its range is taken apart, read in place and put together. Assumes nothing.
-use mathlib.Core.Path.{ap, sym, _∙_}
+-- `calls::read` meets its contract: a record in its range is taken apart, read in place and put together. Assumes nothing.
+use mathlib.Core.Path.{sym, _∙_}
 use borrow.Author.Needs.{needs}
 use borrow.Author.Tests.{not-true, not-false}
 use Rattle.record.specs.declared.Dock.{Dock}
-use Rattle.record.specs.declared.Rest.{Rest}
-use Rattle.record.specs.Apart.{dockWith}
+use Rattle.dock.specs.declared.Taken.{Taken}
 use Rattle.dock.specs.Answers.{taken}
 use Rattle.dock.specs.Read.{readOf}
 use Rattle.dock.proofs.InRange.{rest-in-range, apart-in-range}
 use Rattle.dock.proofs.Reading.{read-refused}
-use Rattle.dock.proofs.read.read.Statement.{statement}
-use Rattle.dock.proofs.read.read.Tie as tie
+use Rattle.calls.proofs.Whole.{put-together}
+use Rattle.calls.proofs.read.Statement.{statement}
+use Rattle.calls.proofs.read.Tie as tie
 
 in-range-requires : tie.Need-in-range-requires
 in-range-requires c κs = search needs
@@ -40,9 +40,8 @@ returns-2 c =
     let looked = rest .before .before .before .before .before .before .before .before in
     let a = looked .before .before .args in
     let d = a .d in
-    ap (λ (e : Dock). taken (x .result .given) e) (c .dock-with .ensures)
-    ∙ x .ensures (d .map) (d .contacts .closed) (d .contacts .counts) (apart-in-range d _ _ (rest .rest-of .ensures) (looked .before .in-range .ensures) (not-false _ (looked .if1 .left)))
-    ∙ ap (λ (r : Rest). readOf (dockWith (d .map) (d .contacts .closed) (d .contacts .counts) (d .keys .held) (d .types) r)) (rest .rest-of .ensures)
+    put-together Taken (λ (e : Dock). taken (x .result .given) e) readOf d _ _ _ (rest .rest-of .ensures) (c .dock-with .ensures)
+    (x .ensures (d .map) (d .contacts .closed) (d .contacts .counts) (apart-in-range d _ _ (rest .rest-of .ensures) (looked .before .in-range .ensures) (not-false _ (looked .if1 .left))))
 
 pub read-spec : {M : Type 1} → statement M
 read-spec =

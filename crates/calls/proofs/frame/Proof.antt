@@ -1,16 +1,16 @@
--- `dock::frame::frame` meets its contract: a record in its range is taken apart, the frame is taken in place, and put together. Assumes nothing.
-use mathlib.Core.Path.{ap, sym, _∙_}
+-- `calls::frame` meets its contract: a record in its range is taken apart, the frame is taken in place, and put together. Assumes nothing.
+use mathlib.Core.Path.{sym, _∙_}
 use borrow.Author.Needs.{needs}
 use borrow.Author.Tests.{not-true, not-false}
 use Rattle.record.specs.declared.Dock.{Dock}
-use Rattle.record.specs.declared.Rest.{Rest}
-use Rattle.record.specs.Apart.{dockWith}
+use Rattle.dock.specs.declared.Answered.{Answered}
 use Rattle.dock.specs.Answers.{answered}
 use Rattle.dock.specs.Frame.{frameOf}
 use Rattle.dock.proofs.InRange.{rest-in-range, apart-in-range}
 use Rattle.dock.proofs.Framing.{frame-refused}
-use Rattle.dock.proofs.frame.frame.Statement.{statement}
-use Rattle.dock.proofs.frame.frame.Tie as tie
+use Rattle.calls.proofs.Whole.{put-together}
+use Rattle.calls.proofs.frame.Statement.{statement}
+use Rattle.calls.proofs.frame.Tie as tie
 
 in-range-requires : tie.Need-in-range-requires
 in-range-requires c κs = search needs
@@ -40,9 +40,8 @@ returns-2 c =
     let looked = rest .before .before .before .before .before .before .before .before in
     let a = looked .before .before .args in
     let d = a .d in
-    ap (λ (e : Dock). answered (x .result .answer) e) (c .dock-with .ensures)
-    ∙ x .ensures (d .map) (apart-in-range d _ _ (rest .rest-of .ensures) (looked .before .in-range .ensures) (not-false _ (looked .if1 .left)))
-    ∙ ap (λ (r : Rest). frameOf (dockWith (d .map) (d .contacts .closed) (d .contacts .counts) (d .keys .held) (d .types) r) (a .number)) (rest .rest-of .ensures)
+    put-together Answered (λ (e : Dock). answered (x .result .answer) e) (λ (e : Dock). frameOf e (a .number)) d _ _ _ (rest .rest-of .ensures) (c .dock-with .ensures)
+    (x .ensures (d .map) (apart-in-range d _ _ (rest .rest-of .ensures) (looked .before .in-range .ensures) (not-false _ (looked .if1 .left))))
 
 pub frame-spec : {M : Type 1} → statement M
 frame-spec =

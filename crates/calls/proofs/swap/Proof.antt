@@ -1,16 +1,16 @@
--- `dock::swap::swap` meets its contract: a record in its range is taken apart, swapped in place and put together. Assumes nothing.
-use mathlib.Core.Path.{ap, sym, _∙_}
+-- `calls::swap` meets its contract: a record in its range is taken apart, swapped in place and put together. Assumes nothing.
+use mathlib.Core.Path.{sym, _∙_}
 use borrow.Author.Needs.{needs}
 use borrow.Author.Tests.{not-true, not-false}
 use Rattle.record.specs.declared.Dock.{Dock}
-use Rattle.record.specs.declared.Rest.{Rest}
-use Rattle.record.specs.Apart.{dockWith}
+use Rattle.dock.specs.declared.Answered.{Answered}
 use Rattle.dock.specs.Answers.{answered}
 use Rattle.dock.specs.Swap.{swapOf}
 use Rattle.dock.proofs.InRange.{apart-in-range}
 use Rattle.dock.proofs.Swapping.{swap-refused}
-use Rattle.dock.proofs.swap.swap.Statement.{statement}
-use Rattle.dock.proofs.swap.swap.Tie as tie
+use Rattle.calls.proofs.Whole.{put-together}
+use Rattle.calls.proofs.swap.Statement.{statement}
+use Rattle.calls.proofs.swap.Tie as tie
 
 in-range-requires : tie.Need-in-range-requires
 in-range-requires c κs = search needs
@@ -40,9 +40,8 @@ returns-2 c =
     let looked = rest .before .before .before .before .before .before .before .before in
     let a = looked .before .before .before .args in
     let d = a .d in
-    ap (λ (e : Dock). answered (x .result .answer) e) (c .dock-with .ensures)
-    ∙ x .ensures
-    ∙ ap (λ (r : Rest). swapOf (dockWith (d .map) (d .contacts .closed) (d .contacts .counts) (d .keys .held) (d .types) r) (a .new .now)) (rest .rest-of .ensures)
+    put-together Answered (λ (e : Dock). answered (x .result .answer) e) (λ (e : Dock). swapOf e (a .new .now)) d _ _ _ (rest .rest-of .ensures) (c .dock-with .ensures)
+    (x .ensures)
 
 pub swap-spec : {M : Type 1} → statement M
 swap-spec =
