@@ -6,15 +6,15 @@ use native.Mathlib.Numerals.{add-one}
 use native.Mathlib.Omega.{arith}
 use lib.Bits.{bitOr, bitXor, or-shifted-r, xor-shr, xor-mod}
 use lib.Dec.{eqb}
-use Rattle.contacts.specs.Scans.{rowOf}
+use Rattle.contacts.specs.Scans.{contactIn}
 use Rattle.contacts.specs.Counts.{packed}
 
 -- A row of the exclusive or of two bytes is that of their rows, and 0 exactly if they are the same.
-pub row-xor : (a b row : ℕ) → rowOf (bitXor a b) row ≡ bitXor (rowOf a row) (rowOf b row)
+pub row-xor : (a b row : ℕ) → contactIn (bitXor a b) row ≡ bitXor (contactIn a row) (contactIn b row)
 row-xor a b row = ap (λ (n : ℕ). n % 2) (xor-shr a b row) ∙ xor-mod (a / 2 ^ row) (b / 2 ^ row) 1
 
-pub row-same : (a b row : ℕ) → eqb (rowOf (bitXor a b) row) 0 ≡ eqb (rowOf a row) (rowOf b row)
-row-same a b row = ap (λ (n : ℕ). eqb n 0) (row-xor a b row) ∙ bits (rowOf a row) (rowOf b row) (omega arith) (omega arith)
+pub row-same : (a b row : ℕ) → eqb (contactIn (bitXor a b) row) 0 ≡ eqb (contactIn a row) (contactIn b row)
+row-same a b row = ap (λ (n : ℕ). eqb n 0) (row-xor a b row) ∙ bits (contactIn a row) (contactIn b row) (omega arith) (omega arith)
   where
     bits : (x y : ℕ) → x < 2 → y < 2 → eqb (bitXor x y) 0 ≡ eqb x y
     bits zero zero h l = refl
@@ -26,7 +26,7 @@ row-same a b row = ap (λ (n : ℕ). eqb n 0) (row-xor a b row) ∙ bits (rowOf 
     bits (suc (suc x)) y h l = absurd (omega arith)
 
 -- The packed byte of each row is that row.
-pub packed-row : (f : ℕ → ℕ) → ((i : ℕ) → f i < 2) → (r : ℕ) → r < 8 → rowOf (packed f) r ≡ f r
+pub packed-row : (f : ℕ → ℕ) → ((i : ℕ) → f i < 2) → (r : ℕ) → r < 8 → contactIn (packed f) r ≡ f r
 packed-row f h zero b = omega (arith, h 0)
 packed-row f h (suc zero) b = omega (arith, h 0, h 1)
 packed-row f h (suc (suc zero)) b = omega (arith, h 0, h 1, h 2)
@@ -41,7 +41,7 @@ pub packed-up-to-255 : (f : ℕ → ℕ) → ((i : ℕ) → f i < 2) → packed 
 packed-up-to-255 f h = omega (arith, h 0, h 1, h 2, h 3, h 4, h 5, h 6, h 7)
 
 -- A byte's own rows packed are the byte: each half of it is twice the next half and a row.
-pub packed-rows : (byte : ℕ) → byte < 256 → packed (rowOf byte) ≡ byte
+pub packed-rows : (byte : ℕ) → byte < 256 → packed (contactIn byte) ≡ byte
 packed-rows byte h =
     let top : byte / 128 / 2 ≡ 0 = omega arith in
     let halves : (k : ℕ) → byte / k ≡ byte / k / 2 * 2 + byte / k % 2 = λ k. sym (div-add-mod' (byte / k) 2) in

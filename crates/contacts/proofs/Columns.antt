@@ -11,7 +11,7 @@ use lib.Bits.{bitAnd, bitOr, bitXor, and-high, xor-lt}
 use lib.Dec.{eqb, ltb}
 use lib.ListN.{getD, set}
 use Rattle.basics.specs.Choice.{pick}
-use Rattle.contacts.specs.Scans.{rowOf}
+use Rattle.contacts.specs.Scans.{contactIn}
 use Rattle.contacts.specs.Counts.{nextCount, nextClosed, packed, renewed, columnCounts, columnClosed}
 use Rattle.contacts.proofs.Pointwise.{next-closed-small}
 use Rattle.contacts.proofs.Bytes.{row-xor, row-same, packed-row, packed-up-to-255, packed-rows, packed-same, packedTo, packed-all, packed-more}
@@ -33,7 +33,7 @@ turns-now otherwise count h = rw (le-ltb count 2 h) (go (ℕ-discrete otherwise 
     go (no d) = rw (ne-eqb otherwise 0 d)
 
 -- A row left at its bit: the byte without its other rows.
-row-mask : (byte r : ℕ) → r < 8 → bitAnd byte (1 * 2 ^ r % 256) ≡ rowOf byte r * 2 ^ r
+row-mask : (byte r : ℕ) → r < 8 → bitAnd byte (1 * 2 ^ r % 256) ≡ contactIn byte r * 2 ^ r
 row-mask byte r h =
     let top : 2 ^ r ≤ 2 ^ 7 = pow-le-pow-right {n = 2} (omega arith) {i = r} {j = 7} (omega arith) in
     let bit : 1 * 2 ^ r % 256 ≡ 2 ^ (1 + r) - 2 ^ r = omega (arith, top, twice) in
@@ -84,27 +84,27 @@ turned-is seen closed count h l = go seen closed h l (ltb count 2)
 module _ (column seen closed : ℕ) (counts : List ℕ) where
   -- The new count of a row, whether it turns, and its new contact.
   abbrev pub rowCount : ℕ → ℕ → ℕ
-  rowCount row count = nextCount (rowOf seen row) (rowOf closed row) count
+  rowCount row count = nextCount (contactIn seen row) (contactIn closed row) count
 
   abbrev pub rowTurns : ℕ → ℕ
-  rowTurns row = nextClosed (rowOf (bitXor seen closed) row) 0 (getD counts (8 * column + row) 0)
+  rowTurns row = nextClosed (contactIn (bitXor seen closed) row) 0 (getD counts (8 * column + row) 0)
 
   abbrev rowClosed : ℕ → ℕ
-  rowClosed row = nextClosed (rowOf seen row) (rowOf closed row) (getD counts (8 * column + row) 0)
+  rowClosed row = nextClosed (contactIn seen row) (contactIn closed row) (getD counts (8 * column + row) 0)
 
   small : (row : ℕ) → rowTurns row < 2
-  small row = next-closed-small (rowOf (bitXor seen closed) row) 0 (getD counts (8 * column + row) 0) (omega arith) (omega arith)
+  small row = next-closed-small (contactIn (bitXor seen closed) row) 0 (getD counts (8 * column + row) 0) (omega arith) (omega arith)
 
   module _ (l : List ℕ) (r : ℕ) (i : l ≡ renewed rowCount (8 * column) r counts) where
     module _ (b : r < 8) where
-      otherwise : bitAnd (bitXor seen closed) (1 * 2 ^ r % 256) ≡ rowOf (bitXor seen closed) r * 2 ^ r
+      otherwise : bitAnd (bitXor seen closed) (1 * 2 ^ r % 256) ≡ contactIn (bitXor seen closed) r * 2 ^ r
       otherwise = row-mask (bitXor seen closed) r b
 
       pub row-counts : (m : ℕ) → m ≡ nextCount (bitAnd (bitXor seen closed) (1 * 2 ^ r % 256)) 0 (getD l (8 * column + r) 0)
           → set l (8 * column + r) m ≡ renewed rowCount (8 * column) (r + 1) counts
       row-counts m e =
           let n = getD l (8 * column + r) 0 in
-          let test = bit-none (rowOf (bitXor seen closed) r) n r (omega arith) ∙ row-same seen closed r in
+          let test = bit-none (contactIn (bitXor seen closed) r) n r (omega arith) ∙ row-same seen closed r in
           renewed-more rowCount (8 * column) r counts l m i
           (e ∙ ap (λ (x : ℕ). nextCount x 0 n) otherwise ∙ ap (λ (t : Bool). pick t 0 (pick (ltb n 2) (n + 1) 0)) test)
 
@@ -113,8 +113,8 @@ module _ (column seen closed : ℕ) (counts : List ℕ) where
         was : v ≡ rowTurns r * 2 ^ r
         was =
             let n = getD l (8 * column + r) 0 in
-            e ∙ ap (λ (x : ℕ). nextClosed x 0 n) otherwise ∙ bit-turns (rowOf (bitXor seen closed) r) n r (omega arith)
-            ∙ ap (λ (count : ℕ). nextClosed (rowOf (bitXor seen closed) r) 0 count * 2 ^ r)
+            e ∙ ap (λ (x : ℕ). nextClosed x 0 n) otherwise ∙ bit-turns (contactIn (bitXor seen closed) r) n r (omega arith)
+            ∙ ap (λ (count : ℕ). nextClosed (contactIn (bitXor seen closed) r) 0 count * 2 ^ r)
             (ap (λ (x : List ℕ). getD x (8 * column + r) 0) i ∙ renewed-later rowCount (8 * column) r counts (8 * column + r) (omega arith))
 
         pub row-turns : bitOr turned v ≡ packedTo (r + 1) rowTurns
@@ -129,14 +129,14 @@ module _ (column seen closed : ℕ) (counts : List ℕ) where
       all-closed u v turned j =
           ap (bitXor closed) (j ∙ ap (λ (n : ℕ). packedTo n rowTurns) (le-antisymm a b) ∙ packed-all rowTurns)
           ∙ sym (packed-rows (bitXor closed all) (xor-lt 8 closed all v (omega (arith, packed-up-to-255 rowTurns small))))
-          ∙ packed-same (rowOf (bitXor closed all)) rowClosed each
+          ∙ packed-same (contactIn (bitXor closed all)) rowClosed each
         where
           all : ℕ
           all = packed rowTurns
 
-          each : (row : ℕ) → row < 8 → rowOf (bitXor closed all) row ≡ rowClosed row
+          each : (row : ℕ) → row < 8 → contactIn (bitXor closed all) row ≡ rowClosed row
           each row h =
               row-xor closed all row
-              ∙ ap (bitXor (rowOf closed row)) (packed-row rowTurns small row h
+              ∙ ap (bitXor (contactIn closed row)) (packed-row rowTurns small row h
               ∙ ap (λ (x : ℕ). nextClosed x 0 (getD counts (8 * column + row) 0)) (row-xor seen closed row))
-              ∙ turned-is (rowOf seen row) (rowOf closed row) (getD counts (8 * column + row) 0) (omega arith) (omega arith)
+              ∙ turned-is (contactIn seen row) (contactIn closed row) (getD counts (8 * column + row) 0) (omega arith) (omega arith)

@@ -14,7 +14,7 @@ use Rattle.basics.proofs.Flags.{left-of-both, right-of-both}
 use Rattle.basics.proofs.Limits.{up-to-at}
 use Rattle.basics.proofs.Maps.{mapFrom-is}
 use Rattle.contacts.specs.declared.Contacts.{Contacts}
-use Rattle.contacts.specs.Scans.{rowOf, contact, same}
+use Rattle.contacts.specs.Scans.{contactIn, contact, same}
 use Rattle.contacts.specs.Counts.{nextCount, nextClosed, packed, countAt, closedAt, countedOf, atRest, renewed, columnCounts, columnClosed}
 use Rattle.contacts.proofs.Pointwise.{contact-at}
 use Rattle.contacts.proofs.Bytes.{packed-rows, packed-same}
@@ -49,14 +49,16 @@ module _ (k : Contacts) (scan : List ℕ) where
     still-column : (byte : ℕ) → getD (k .closed) c 0 ≡ newColumn c byte
     still-column byte =
         sym (packed-rows (getD (k .closed) c 0) (rw e at b))
-        ∙ packed-same (rowOf (getD (k .closed) c 0)) (λ row. closedAt k scan (8 * c + row))
+        ∙ packed-same (contactIn (getD (k .closed) c 0)) (λ row. closedAt k scan (8 * c + row))
         (λ r h. rw (contact-at scan c r h, contact-at (k .closed) c r h)
-        (same-closed (rowOf (getD scan c 0) r) (rowOf (getD (k .closed) c 0) r) (getD (k .counts) (8 * c + r) 0) (ap (λ (x : ℕ). rowOf x r) e)))
+        (same-closed (contactIn (getD scan c 0) r) (contactIn (getD (k .closed) c 0) r) (getD (k .counts) (8 * c + r) 0)
+        (ap (λ (x : ℕ). contactIn x r) e)))
 
     still-count : (row : ℕ) → row < 8 → 0 ≡ countAt k scan (8 * c + row)
     still-count r h =
         rw (contact-at scan c r h, contact-at (k .closed) c r h)
-        (same-count (rowOf (getD scan c 0) r) (rowOf (getD (k .closed) c 0) r) (getD (k .counts) (8 * c + r) 0) (ap (λ (x : ℕ). rowOf x r) e))
+        (same-count (contactIn (getD scan c 0) r) (contactIn (getD (k .closed) c 0) r) (getD (k .counts) (8 * c + r) 0)
+        (ap (λ (x : ℕ). contactIn x r) e))
 
   -- One more column: the contacts are `before` ahead of it, `after` behind it.
   module _ (c : ℕ) (before after : Contacts) (i : before ≡ countedTo c) where
@@ -98,11 +100,11 @@ module _ (k : Contacts) (scan : List ℕ) where
         next
         (f ∙ renewed-next newColumn c (k .closed) (before .closed) v closed-so-far
         (e ∙ packed-same
-        (λ row. nextClosed (rowOf (getD scan c 0) row) (rowOf (getD (before .closed) c 0) row) (getD (before .counts) (8 * c + row) 0))
+        (λ row. nextClosed (contactIn (getD scan c 0) row) (contactIn (getD (before .closed) c 0) row) (getD (before .counts) (8 * c + row) 0))
         (λ row. closedAt k scan (8 * c + row))
         (λ r h. rw (contact-at scan c r h, contact-at (k .closed) c r h, closed-kept, counts-kept r))))
         (g ∙ renewed-join newCount
-        (λ row count. nextCount (rowOf (getD scan c 0) row) (rowOf (getD (before .closed) c 0) row) count)
+        (λ row count. nextCount (contactIn (getD scan c 0) row) (contactIn (getD (before .closed) c 0) row) count)
         (8 * c) (k .counts) (before .counts) counts-so-far 8
         (λ r h. rw (contact-at scan c r h, contact-at (k .closed) c r h, closed-kept)))
 

@@ -12,7 +12,7 @@ use Rattle.basics.specs.Lists.{allUpTo}
 use Rattle.basics.proofs.Limits.{up-to-all}
 use Rattle.basics.proofs.Maps.{length-mapFrom, getD-mapFrom}
 use Rattle.contacts.specs.declared.Contacts.{Contacts}
-use Rattle.contacts.specs.Scans.{rowOf, contact}
+use Rattle.contacts.specs.Scans.{contactIn, contact}
 use Rattle.contacts.specs.Counts.{nextCount, nextClosed, packed, countAt, closedAt, countedOf}
 use Rattle.contacts.proofs.Bytes.{packed-row, packed-up-to-255}
 
@@ -22,7 +22,7 @@ unfolding contact
 contact-small scan position = omega arith
 
 -- The contact at a position, by its column and row.
-pub contact-at : (scan : List ℕ) (column row : ℕ) → row < 8 → contact scan (8 * column + row) ≡ rowOf (getD scan column 0) row
+pub contact-at : (scan : List ℕ) (column row : ℕ) → row < 8 → contact scan (8 * column + row) ≡ contactIn (getD scan column 0) row
 unfolding contact
 contact-at scan column row h =
     let c : (8 * column + row) / 8 ≡ column = omega arith in

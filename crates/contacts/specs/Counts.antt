@@ -8,7 +8,7 @@ use lib.ListN.{getD, set, replicate}
 use Rattle.basics.specs.Choice.{pick, both}
 use Rattle.basics.specs.Lists.{mapFrom, allUpTo}
 use Rattle.contacts.specs.declared.Contacts.{Contacts}
-use Rattle.contacts.specs.Scans.{rowOf, contact, same}
+use Rattle.contacts.specs.Scans.{contactIn, contact, same}
 
 -- Contacts by their two parts.
 abbrev pub contacts : List ℕ → List ℕ → Contacts
@@ -58,9 +58,10 @@ renewed new first (suc n) list = set (renewed new first n list) (first + n) (new
 
 -- What a counted scan makes of a column that is `seen` and counts as `closed`: its eight counts,
 abbrev pub columnCounts : ℕ → ℕ → ℕ → List ℕ → List ℕ
-columnCounts column seen closed counts = renewed (λ row count. nextCount (rowOf seen row) (rowOf closed row) count) (8 * column) 8 counts
+columnCounts column seen closed counts =
+    renewed (λ row count. nextCount (contactIn seen row) (contactIn closed row) count) (8 * column) 8 counts
 
 -- and its eight contacts.
 abbrev pub columnClosed : ℕ → ℕ → ℕ → List ℕ → ℕ
 columnClosed column seen closed counts =
-    packed (λ row. nextClosed (rowOf seen row) (rowOf closed row) (getD counts (8 * column + row) 0))
+    packed (λ row. nextClosed (contactIn seen row) (contactIn closed row) (getD counts (8 * column + row) 0))

@@ -7,12 +7,12 @@ use lib.ListN.{getD}
 use Rattle.basics.specs.Choice.{both}
 
 -- The contact in a row of a column: 1 closed, 0 open.
-abbrev pub rowOf : ℕ → ℕ → ℕ
-rowOf column row = column / 2 ^ row % 2
+abbrev pub contactIn : ℕ → ℕ → ℕ
+contactIn column row = column / 2 ^ row % 2
 
 -- The contact at a position.
 unfoldable pub contact : List ℕ → ℕ → ℕ
-contact scan position = rowOf (getD scan (position / 8) 0) (position % 8)
+contact scan position = contactIn (getD scan (position / 8) 0) (position % 8)
 
 -- Two scans show the same.
 unfoldable pub same : List ℕ → List ℕ → Bool

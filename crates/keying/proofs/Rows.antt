@@ -6,7 +6,7 @@ use native.Mathlib.Nat.{add-zero, add-suc, le-antisymm}
 use native.Mathlib.Omega.{arith}
 use borrow.Author.Tests.{eq-eqb}
 use lib.ListN.{getD}
-use Rattle.contacts.specs.Scans.{rowOf}
+use Rattle.contacts.specs.Scans.{contactIn}
 use Rattle.contacts.proofs.Pointwise.{contact-at}
 use Rattle.record.specs.declared.Mode.{Mode}
 use Rattle.record.specs.declared.Keys.{Keys}
@@ -17,7 +17,7 @@ module _ (m : Mode) (types map : List ℕ) where
   rows-still : (n column byte : ℕ) (k : Keys) → rowsTo n m types map column byte byte k ≡ k
   unfolding rowsTo turned
   rows-still zero column byte k = refl
-  rows-still (suc n) column byte k = rw (eq-eqb (rowOf byte n) (rowOf byte n) refl) (rows-still n column byte k)
+  rows-still (suc n) column byte k = rw (eq-eqb (contactIn byte n) (contactIn byte n) refl) (rows-still n column byte k)
 
   module _ (was is : List ℕ) (k : Keys) where
     -- The positions up to a row of a column are those of the columns before it, and those rows.

@@ -10,7 +10,7 @@ use lib.Dec.{T, eqb, ltb, ltb→lt}
 use lib.ListN.{getD}
 use Rattle.basics.specs.Choice.{pick, both}
 use Rattle.basics.proofs.Tables.{allBelow, below, both-left, both-right}
-use Rattle.contacts.specs.Scans.{rowOf, same}
+use Rattle.contacts.specs.Scans.{contactIn, same}
 use Rattle.contacts.proofs.Bytes.{row-same}
 use Rattle.contacts.proofs.Sameness.{same-is}
 use Rattle.record.specs.declared.Mode.{Mode}
@@ -20,7 +20,7 @@ use Rattle.keying.specs.Moves.{moved, turned, rowsTo}
 -- The rows below a row in which a byte has a 1, the lowest first, and all its rows that have one.
 rowsBelow : ℕ → ℕ → List ℕ
 rowsBelow zero byte = []
-rowsBelow (suc row) byte = rowsBelow row byte ++ pick (eqb (rowOf byte row) 0) [] (row ∷ [])
+rowsBelow (suc row) byte = rowsBelow row byte ++ pick (eqb (contactIn byte row) 0) [] (row ∷ [])
 
 pub rowsIn : ℕ → List ℕ
 rowsIn byte = rowsBelow 8 byte
@@ -29,7 +29,7 @@ rowsIn byte = rowsBelow 8 byte
 pub onRows : List ℕ → Mode → List ℕ → List ℕ → ℕ → ℕ → Keys → Keys
 onRows [] m types map column is k = k
 onRows (row ∷ rows) m types map column is k =
-    onRows rows m types map column is (moved k m types (getD map (8 * column + row) 0) (rowOf is row))
+    onRows rows m types map column is (moved k m types (getD map (8 * column + row) 0) (contactIn is row))
 
 -- The lowest row of a byte that is not 0 is one of the eight, and the byte without it has the other rows: computed for all 255.
 isOfEight : ℕ → Bool
@@ -70,10 +70,10 @@ module _ (m : Mode) (types map : List ℕ) (column is : ℕ) where
       → onRows (rows ++ others) m types map column is k ≡ onRows others m types map column is (onRows rows m types map column is k)
   unfolding onRows
   on-rows-joined [] others k = refl
-  on-rows-joined (row ∷ rows) others k = on-rows-joined rows others (moved k m types (getD map (8 * column + row) 0) (rowOf is row))
+  on-rows-joined (row ∷ rows) others k = on-rows-joined rows others (moved k m types (getD map (8 * column + row) 0) (contactIn is row))
 
-  one-row : (was row : ℕ) (same : Bool) → eqb (rowOf was row) (rowOf is row) ≡ same → (k : Keys)
-      → turned m types map (8 * column + row) (rowOf was row) (rowOf is row) k
+  one-row : (was row : ℕ) (same : Bool) → eqb (contactIn was row) (contactIn is row) ≡ same → (k : Keys)
+      → turned m types map (8 * column + row) (contactIn was row) (contactIn is row) k
       ≡ onRows (pick same [] (row ∷ [])) m types map column is k
   unfolding turned onRows
   one-row was row true e k = rw e
@@ -85,7 +85,7 @@ module _ (m : Mode) (types map : List ℕ) (column is : ℕ) where
   rows-below zero was k = refl
   rows-below (suc n) was k =
       rw (on-rows-joined (rowsBelow n (bitXor was is)) _ k, ← rows-below n was k, row-same was is n)
-      (one-row was n (eqb (rowOf was n) (rowOf is n)) refl (rowsTo n m types map column was is k))
+      (one-row was n (eqb (contactIn was n) (contactIn is n)) refl (rowsTo n m types map column was is k))
 
   pub rows-are : (was : ℕ) (k : Keys) → rowsTo 8 m types map column was is k ≡ onRows (rowsIn (bitXor was is)) m types map column is k
   unfolding rowsIn
@@ -94,7 +94,7 @@ module _ (m : Mode) (types map : List ℕ) (column is : ℕ) where
   -- The lowest of the rows left is moved, and at last none is left.
   module _ (whole before : Keys) (left : ℕ) (i : whole ≡ onRows (rowsIn left) m types map column is before) where
     pub row-moved : 0 < left → left < 256 → (after : Keys)
-        → after ≡ moved before m types (getD map (8 * column + trailingZeros 32 left) 0) (rowOf is (trailingZeros 32 left))
+        → after ≡ moved before m types (getD map (8 * column + trailingZeros 32 left) 0) (contactIn is (trailingZeros 32 left))
         → whole ≡ onRows (rowsIn (bitAnd left (left - 1))) m types map column is after
     unfolding onRows
     row-moved some small after e = i ∙ rw (rows-next left some small, e)

@@ -6,7 +6,7 @@ use lib.ListN.{getD, set}
 use Rattle.basics.specs.Choice.{pick}
 use Rattle.codes.specs.declared.Action.the-variants.{Press, Release}
 use Rattle.codes.specs.Codes.{mayRepeat}
-use Rattle.contacts.specs.Scans.{rowOf, contact}
+use Rattle.contacts.specs.Scans.{contactIn, contact}
 use Rattle.queue.specs.declared.Queue.{Queue}
 use Rattle.queue.specs.Queues.{queueWith}
 use Rattle.record.specs.declared.Mode.{Mode}
@@ -62,4 +62,4 @@ turnsTo (suc position) m types map was is k = turnedAt m types map was is positi
 unfoldable pub rowsTo : ℕ → Mode → List ℕ → List ℕ → ℕ → ℕ → ℕ → Keys → Keys
 rowsTo zero m types map column was is k = k
 rowsTo (suc row) m types map column was is k =
-    turned m types map (8 * column + row) (rowOf was row) (rowOf is row) (rowsTo row m types map column was is k)
+    turned m types map (8 * column + row) (contactIn was row) (contactIn is row) (rowsTo row m types map column was is k)
