@@ -26,7 +26,11 @@ pub either-false : (b : Bool) → either b false ≡ b
 either-false true = refl
 either-false false = refl
 
--- Where neither of two holds, each does not.
+-- Where neither of two holds, nor does "one of them".
+pub neither : (a b : Bool) → a ≡ false → b ≡ false → either a b ≡ false
+neither a b e f = rw (e, f)
+
+-- And the other way, first of the one and then of the other.
 pub neither-first : (a b : Bool) → either a b ≡ false → a ≡ false
 neither-first true b e = e
 neither-first false b e = refl

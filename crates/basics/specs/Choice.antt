@@ -8,10 +8,12 @@ abbrev pub pick : {A : Type 0} → Bool → A → A → A
 pick true x y = x
 pick false x y = y
 
+-- Both tests hold.
 abbrev pub both : Bool → Bool → Bool
 both true b = b
 both false b = false
 
+-- One of two tests holds, or both.
 abbrev pub either : Bool → Bool → Bool
 either true b = true
 either false b = b

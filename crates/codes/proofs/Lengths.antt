@@ -78,6 +78,7 @@ bytes-short set key Repeat type form =
     picked (Short 8) (mayRepeat set key type) _ _ (omega (arith, make-short (codeOf set key form))) (omega arith)
 
 -- No action of any key sends more than 8 bytes.
-pub encode-short : (set key : ℕ) (action : Action) (type mods : ℕ) (lock : Bool) → length (encode set key action type mods lock) ≤ 8
+pub encode-short : (set key : ℕ) (action : Action) (type modifiers : ℕ) (lock : Bool)
+    → length (encode set key action type modifiers lock) ≤ 8
 unfolding encode
-encode-short set key action type mods lock = bytes-short set key action type (formOf set key mods lock)
+encode-short set key action type modifiers lock = bytes-short set key action type (formOf set key modifiers lock)

@@ -23,17 +23,18 @@ module _ (set key : ℕ) (one : hasForms set key ≡ false) where
   unfolding hasForms
   none-of-these n = rw (ne-eqb _ _ n) at one
 
-  one-form : (mods : ℕ) (lock : Bool) → Plain ≡ formOf set key mods lock
+  one-form : (modifiers : ℕ) (lock : Bool) → Plain ≡ formOf set key modifiers lock
   unfolding formOf
-  one-form mods lock = go (ℕ-discrete set 3)
+  one-form modifiers lock = go (ℕ-discrete set 3)
     where
-      go : Dec (set ≡ 3) → Plain ≡ formOf set key mods lock
+      go : Dec (set ≡ 3) → Plain ≡ formOf set key modifiers lock
       go (yes e) = rw e
       go (no n) =
           let past = none-of-these n in
           let rest = neither-second (isCursor key) _ past in
           let last = neither-second (isKeypadSlash key) _ rest in
-          no-form set key mods lock n (neither-first _ _ past) (neither-first _ _ rest) (neither-first _ _ last) (neither-second (isPrint key) _ last)
+          no-form set key modifiers lock n (neither-first _ _ past) (neither-first _ _ rest) (neither-first _ _ last)
+          (neither-second (isPrint key) _ last)
 
   not-at-once : pausesAtOnce set key ≡ false
   not-at-once = go (ℕ-discrete set 3)
@@ -51,25 +52,27 @@ module _ (set key : ℕ) (one : hasForms set key ≡ false) where
 
   module _ (type : ℕ) (action : Action) (code : ℕ) (r : Sequence) where
     pub one-press : action ≡ Press → code ≡ codeIn set key → r ≡ holding (makeOf code)
-        → (mods : ℕ) (lock : Bool) → r ≡ holding (encode set key action type mods lock)
+        → (modifiers : ℕ) (lock : Bool) → r ≡ holding (encode set key action type modifiers lock)
     unfolding encode bytesOf before
-    one-press a c e mods lock = rw (a, ← one-form mods lock, not-at-once, code-plain, ← c) e
+    one-press a c e modifiers lock = rw (a, ← one-form modifiers lock, not-at-once, code-plain, ← c) e
 
     pub one-release : action ≡ Release → sendsRelease set type ≡ true → code ≡ codeIn set key → r ≡ holding (breakOf set code)
-        → (mods : ℕ) (lock : Bool) → r ≡ holding (encode set key action type mods lock)
+        → (modifiers : ℕ) (lock : Bool) → r ≡ holding (encode set key action type modifiers lock)
     unfolding encode bytesOf after
-    one-release a s c e mods lock = rw (a, ← one-form mods lock, not-at-once, s, append-nil, code-plain, ← c) e
+    one-release a s c e modifiers lock = rw (a, ← one-form modifiers lock, not-at-once, s, append-nil, code-plain, ← c) e
 
     pub one-repeat : action ≡ Repeat → mayRepeat set key type ≡ true → code ≡ codeIn set key → r ≡ holding (makeOf code)
-        → (mods : ℕ) (lock : Bool) → r ≡ holding (encode set key action type mods lock)
+        → (modifiers : ℕ) (lock : Bool) → r ≡ holding (encode set key action type modifiers lock)
     unfolding encode bytesOf
-    one-repeat a s c e mods lock = rw (a, ← one-form mods lock, s, code-plain, ← c) e
+    one-repeat a s c e modifiers lock = rw (a, ← one-form modifiers lock, s, code-plain, ← c) e
 
   module _ (type : ℕ) (action : Action) (r : Sequence) (e : r ≡ holding []) where
-    pub no-release : action ≡ Release → sendsRelease set type ≡ false → (mods : ℕ) (lock : Bool) → r ≡ holding (encode set key action type mods lock)
+    pub no-release : action ≡ Release → sendsRelease set type ≡ false → (modifiers : ℕ) (lock : Bool)
+        → r ≡ holding (encode set key action type modifiers lock)
     unfolding encode bytesOf
-    no-release a s mods lock = rw (a, not-at-once, s) e
+    no-release a s modifiers lock = rw (a, not-at-once, s) e
 
-    pub no-repeat : action ≡ Repeat → mayRepeat set key type ≡ false → (mods : ℕ) (lock : Bool) → r ≡ holding (encode set key action type mods lock)
+    pub no-repeat : action ≡ Repeat → mayRepeat set key type ≡ false → (modifiers : ℕ) (lock : Bool)
+        → r ≡ holding (encode set key action type modifiers lock)
     unfolding encode bytesOf
-    no-repeat a s mods lock = rw (a, s) e
+    no-repeat a s modifiers lock = rw (a, s) e

@@ -24,7 +24,7 @@ isPrint key = eqb key 99
 abbrev pub isPause : ℕ → Bool
 isPause key = eqb key 101
 
--- A code is the byte that is sent, with 0xe000 added where E0 goes before it.
+-- What goes before a code's last byte: E0 or nothing. A code is the byte that is sent, with 0xe000 added where E0 goes before it.
 unfoldable pub prefix : ℕ → List ℕ
 prefix code = pick (eqb (code / 256) 0) [] ((code / 256) ∷ [])
 
@@ -56,31 +56,31 @@ after set Other = []
 
 -- The form that held SHIFTs give.
 unfoldable pub shiftForm : ℕ → Form
-shiftForm mods =
-    pick (eqb (shifts mods) 0) Plain
-    (pick (eqb (shifts mods) 1) ShiftLeft
-    (pick (eqb (shifts mods) 2) ShiftRight ShiftBoth))
+shiftForm modifiers =
+    pick (eqb (shifts modifiers) 0) Plain
+    (pick (eqb (shifts modifiers) 1) ShiftLeft
+    (pick (eqb (shifts modifiers) 2) ShiftRight ShiftBoth))
 
 -- The ten cursor keys: SHIFT without Num Lock, and Num Lock without SHIFT, have forms of their own.
 unfoldable pub cursorForm : ℕ → Bool → Form
-cursorForm mods lock = pick lock (pick (shiftHeld mods) Plain NumLock) (shiftForm mods)
+cursorForm modifiers lock = pick lock (pick (shiftHeld modifiers) Plain NumLock) (shiftForm modifiers)
 
 -- PRINT: its Alt form if an ALT is held, else its code bare if a CTRL or SHIFT is, else wrapped as under Num Lock.
 unfoldable pub printForm : ℕ → Form
-printForm mods = pick (altHeld mods) Other (pick (either (controlHeld mods) (shiftHeld mods)) Plain NumLock)
+printForm modifiers = pick (altHeld modifiers) Other (pick (either (controlHeld modifiers) (shiftHeld modifiers)) Plain NumLock)
 
 -- PAUSE: its Ctrl form if a CTRL is held.
 unfoldable pub pauseForm : ℕ → Form
-pauseForm mods = pick (controlHeld mods) Other Plain
+pauseForm modifiers = pick (controlHeld modifiers) Other Plain
 
 -- The form that a key takes by the modifiers held and Num Lock at that moment; set 3 ignores both.
 unfoldable pub formOf : ℕ → ℕ → ℕ → Bool → Form
-formOf set key mods lock =
+formOf set key modifiers lock =
     pick (eqb set 3) Plain
-    (pick (isCursor key) (cursorForm mods lock)
-    (pick (isKeypadSlash key) (shiftForm mods)
-    (pick (isPrint key) (printForm mods)
-    (pick (isPause key) (pauseForm mods) Plain))))
+    (pick (isCursor key) (cursorForm modifiers lock)
+    (pick (isKeypadSlash key) (shiftForm modifiers)
+    (pick (isPrint key) (printForm modifiers)
+    (pick (isPause key) (pauseForm modifiers) Plain))))
 
 -- Keys whose bytes depend on modifiers or Num Lock: in sets 1 and 2 the cursor keys, keypad /, PRINT and PAUSE.
 unfoldable pub hasForms : ℕ → ℕ → Bool
@@ -130,4 +130,4 @@ bytesOf set key Repeat type form = pick (mayRepeat set key type) (makeOf (codeOf
 
 -- The bytes that an action of a key sends.
 unfoldable pub encode : ℕ → ℕ → Action → ℕ → ℕ → Bool → List ℕ
-encode set key action type mods lock = bytesOf set key action type (formOf set key mods lock)
+encode set key action type modifiers lock = bytesOf set key action type (formOf set key modifiers lock)

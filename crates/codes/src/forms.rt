@@ -66,7 +66,7 @@ fn of_pause(modifiers: u8) -> Form
 }
 
 // The form of any key.
-pub fn form_of(set: u8, key: u8, modifiers: u8, lock: bool) -> Form
+pub(crate) fn form_of(set: u8, key: u8, modifiers: u8, lock: bool) -> Form
     ensures { λ r. ⌜ r ≡ formOf set key modifiers lock ⌝ }
 {
     if set == 3 {

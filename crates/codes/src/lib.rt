@@ -1,5 +1,5 @@
 // The codes of keys (docs/RULES.md, section 3): the bytes that a press, a release or a repeat of a key sends.
-pub mod bytes; // bytes.rt: bytes put one after another
+mod bytes; // bytes.rt: bytes put one after another
 pub mod forms; // forms.rt: which form a key takes
 pub mod plain; // plain.rt: the bytes of an action of a key with one form
 pub mod strokes; // strokes.rt: the bytes of an action
@@ -15,7 +15,8 @@ pub const PRINT: u8 = 99;
 
 pub const PAUSE: u8 = 101;
 
-// What a key does.
+// What a key does: an event of the rules. Here it is an action, since the reader's Event is what bytes tell. And a key's type is
+// called kind, since `type` is a reserved word.
 pub enum Action {
     Press,
     Release,

@@ -9,15 +9,11 @@ use native.Mathlib.Omega.{arith}
 use lib.Bits.{and-zero-r}
 use lib.Count.{ones, onesIn}
 use lib.ListN.{length, getD}
-use Rattle.basics.specs.Choice.{either}
-use Rattle.basics.proofs.Cases.{neither-first, neither-second}
+use Rattle.basics.proofs.Cases.{neither, neither-first, neither-second}
 use Rattle.contacts.specs.Phantom.{shares, sharesAny, isPhantom, sharesAt}
 use Rattle.contacts.proofs.Distances.{sharesWithin}
 
 -- Where no pair shares, no search finds one, and where a search finds none, no pair shares.
-neither : (a b : Bool) → a ≡ false → b ≡ false → either a b ≡ false
-neither a b e f = rw (e, f)
-
 module _ (d : ℕ) (l : List ℕ) where
   abbrev apart : ℕ → Type 0
   apart j = shares (getD l j 0) (getD l (j + d) 0) ≡ false

@@ -1,6 +1,6 @@
 // Scans of the contacts (docs/RULES.md, section 5): is a scan to be believed, and what does it make of the contacts.
 pub mod phantom; // phantom.rt: a scan that shows a whole rectangle is not to be believed
-pub mod history; // history.rt: a contact turns at the third scan in a row that shows it otherwise
+pub mod history; // history.rt: a contact turns at the third counted scan in a row that shows it otherwise
 
 // The contacts as they count.
 pub struct Contacts {

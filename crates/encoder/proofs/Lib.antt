@@ -1,4 +1,3 @@
-pub mod Tests
 pub mod Writing
 pub mod Encoding
 pub mod Once

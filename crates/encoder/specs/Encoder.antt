@@ -19,22 +19,22 @@ actionOf event = pick (eqb event 0) Press (pick (eqb event 1) Release Repeat)
 
 -- What the encoder may be asked for.
 unfoldable pub allowed : ℕ → ℕ → ℕ → ℕ → ℕ → ℕ → Bool
-allowed set key event type mods lock =
+allowed set key event type modifiers lock =
     both (between 1 3 set)
     (both (between 1 104 key)
     (both (leb event 2)
     (both (leb type 3)
-    (both (leb mods 63) (leb lock 1)))))
+    (both (leb modifiers 63) (leb lock 1)))))
 
 -- The bytes that these numbers ask for.
 unfoldable pub asked : ℕ → ℕ → ℕ → ℕ → ℕ → ℕ → List ℕ
-asked set key event type mods lock = encode set key (actionOf event) type mods (eqb lock 1)
+asked set key event type modifiers lock = encode set key (actionOf event) type modifiers (eqb lock 1)
 
 -- The answer: a choice out of its range is refused first, then an output under 8 bytes; else the number of bytes written.
 unfoldable pub encodedOf : ℕ → ℕ → ℕ → ℕ → ℕ → ℕ → List ℕ → Encoded
-encodedOf set key event type mods lock out =
-    pick (allowed set key event type mods lock)
-    (pick (ltb (length out) 8) ShortOutput (Written (length (asked set key event type mods lock))))
+encodedOf set key event type modifiers lock out =
+    pick (allowed set key event type modifiers lock)
+    (pick (ltb (length out) 8) ShortOutput (Written (length (asked set key event type modifiers lock))))
     BadChoice
 
 -- A list with its first places taken by another.
@@ -43,19 +43,19 @@ over bytes out = bytes ++ drop (length bytes) out
 
 -- The lent output afterwards: the bytes asked for at its front, and all as before behind them or after a refusal.
 unfoldable pub outputOf : ℕ → ℕ → ℕ → ℕ → ℕ → ℕ → List ℕ → List ℕ
-outputOf set key event type mods lock out =
-    pick (allowed set key event type mods lock)
-    (pick (ltb (length out) 8) out (over (asked set key event type mods lock) out))
+outputOf set key event type modifiers lock out =
+    pick (allowed set key event type modifiers lock)
+    (pick (ltb (length out) 8) out (over (asked set key event type modifiers lock) out))
     out
 
 -- The bytes of a sequence at the front of a list.
-abbrev pub lying : Sequence → List ℕ → List ℕ
-lying s out = take (s .length) (s .bytes) ++ drop (s .length) out
+abbrev pub writtenTo : Sequence → List ℕ → List ℕ
+writtenTo s out = take (s .length) (s .bytes) ++ drop (s .length) out
 
 -- What the encoder promises, refused or not: the answer, and all of the lent output.
-pub record Encodes (set key event type mods lock : ℕ) (out : List ℕ) (r : Encoded) (out′ : List ℕ) : Type 0 where
-  pub answer : r ≡ encodedOf set key event type mods lock out
-  pub output : out′ ≡ outputOf set key event type mods lock out
+pub record Encodes (set key event type modifiers lock : ℕ) (out : List ℕ) (r : Encoded) (out′ : List ℕ) : Type 0 where
+  pub answer : r ≡ encodedOf set key event type modifiers lock out
+  pub output : out′ ≡ outputOf set key event type modifiers lock out
 
 -- The number that is given back (docs/RULES.md, section 9).
 abbrev pub numberOf : Encoded → ℕ

@@ -6,13 +6,13 @@ ghost use mathlib.Core.Path.{_≡_};
 ghost use Prim.Native.Nat.{_≤_};
 ghost use lib.ListN.{length};
 ghost use Rattle.basics.specs.Choice.{between};
-ghost use Rattle.encoder.specs.Encoder.{actionOf, allowed, Encodes, lying};
+ghost use Rattle.encoder.specs.Encoder.{actionOf, allowed, Encodes, writtenTo};
 
 // What the encoder answers.
 pub enum Encoded {
     // So many bytes stand at the front of the lent output.
     Written(usize),
-    // A set, key, event, type or choice of modifiers out of its range.
+    // A set, key, event, type, modifiers or Num Lock out of its range.
     BadChoice,
     // A lent output under 8 bytes.
     ShortOutput,
@@ -49,7 +49,7 @@ fn action_of(event: u32) -> Action
 // Writes a sequence to the front of the output.
 fn write(s: Sequence, out: &mut [u8])
     requires { ⌜ (s .length ≤ 8) × (8 ≤ length (now out)) ⌝ }
-    ensures { λ _. ⌜ now (out .exit) ≡ lying s (now (out .entry)) ⌝ }
+    ensures { λ _. ⌜ now (out .exit) ≡ writtenTo s (now (out .entry)) ⌝ }
 {
     let n = s.length;
     let bytes = s.bytes;

@@ -28,23 +28,26 @@ pub as-it-is : (n : ℕ) → n < 2 ^ 31 → toZ w32 n ≡ pos n
 as-it-is n h = toZ-pos w32 n h
 
 -- So does a number of bytes that were written: there are at most eight.
-module _ (set key event type mods lock : ℕ) (out : List ℕ) (r : Encoded) (e : r ≡ encodedOf set key event type mods lock out) where
+module _ (set key event type modifiers lock : ℕ) (out : List ℕ) (r : Encoded)
+    (e : r ≡ encodedOf set key event type modifiers lock out) where
   pub count-small : (count : ℕ) → r ≡ Written count → count ≤ 8
   unfolding encodedOf asked
-  count-small count w = go (allowed set key event type mods lock) (ltb (length out) 8) (sym e ∙ w)
+  count-small count w = go (allowed set key event type modifiers lock) (ltb (length out) 8) (sym e ∙ w)
     where
-      go : (a b : Bool) → pick a (pick b ShortOutput (Written (length (asked set key event type mods lock)))) BadChoice ≡ Written count → count ≤ 8
+      go : (a b : Bool) → pick a (pick b ShortOutput (Written (length (asked set key event type modifiers lock)))) BadChoice ≡ Written count
+          → count ≤ 8
       go true true w = let z : _≡_ {A = ℕ} 0 1 = cc in omega arith
       go true false w =
-          let same : length (asked set key event type mods lock) ≡ count = cc in
-          omega (arith, encode-short set key (actionOf event) type mods (eqb lock 1))
+          let same : length (asked set key event type modifiers lock) ≡ count = cc in
+          omega (arith, encode-short set key (actionOf event) type modifiers (eqb lock 1))
       go false b w = let z : _≡_ {A = ℕ} 0 1 = cc in omega arith
 
   -- The number of whatever the encoder answered.
-  pub encoded : (answer : Encoded) → r ≡ answer → encodedNumber answer ≡ encodedNumber (encodedOf set key event type mods lock out)
+  pub encoded : (answer : Encoded) → r ≡ answer
+      → encodedNumber answer ≡ encodedNumber (encodedOf set key event type modifiers lock out)
   encoded answer a = ap encodedNumber (sym a ∙ e)
 
-  pub counted : (count : ℕ) → r ≡ Written count → toZ w32 count ≡ encodedNumber (encodedOf set key event type mods lock out)
+  pub counted : (count : ℕ) → r ≡ Written count → toZ w32 count ≡ encodedNumber (encodedOf set key event type modifiers lock out)
   counted count w = as-it-is count (omega (arith, count-small count w)) ∙ encoded (Written count) w
 
 -- There are seven events, numbered from 0.

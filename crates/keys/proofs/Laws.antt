@@ -24,7 +24,7 @@ laid-row [] i h = absurd (omega arith)
 laid-row (r ∷ l) zero h = refl
 laid-row (r ∷ l) (suc i) h = laid-row l i (omega arith)
 
-rows-length : length rows ≡ 104
+pub rows-length : length rows ≡ 104
 unfolding rows
 rows-length = refl
 

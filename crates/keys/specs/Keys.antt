@@ -171,6 +171,6 @@ leftWrap set = pick (eqb set 1) 0xe02a 0xe012
 abbrev pub rightWrap : ℕ → ℕ
 rightWrap set = pick (eqb set 1) 0xe036 0xe059
 
--- The overrun mark is no code of any key.
+-- The overrun mark of a set (docs/RULES.md, section 7): FF in set 1, 00 in sets 2 and 3. It is no code of any key.
 abbrev pub markOf : ℕ → ℕ
 markOf set = pick (eqb set 1) 0xff 0x00

@@ -1,4 +1,4 @@
--- Panel maps (docs/RULES.md, section 8). Assumes nothing.
+-- Panel maps (docs/RULES.md, sections 5 and 9). Assumes nothing.
 use Prim.Native.Nat.{ℕ}
 use mathlib.Core.Bool.{Bool, false, not}
 use mathlib.Core.List.{List, [], _∷_}

@@ -1,4 +1,4 @@
-// Panel maps (docs/RULES.md, section 8): does a key stand twice, and a lent map copied.
+// Panel maps (docs/RULES.md, sections 5 and 9): does a key stand twice, and a lent map copied.
 ghost use mathlib.Core.Path.{_≡_};
 ghost use mathlib.Core.Bool.{true};
 ghost use lib.ListN.{length};

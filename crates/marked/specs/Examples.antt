@@ -39,6 +39,7 @@ leftShift = 1
 abbrev bothShifts : ℕ
 bothShifts = 3
 
+-- All of them, P1 to P12.
 unfoldable pub examples : List Example
 examples =
     -- P1 to P4: frames.

@@ -4,8 +4,8 @@ use mathlib.Core.List.{List, [], _∷_}
 use lib.ListN.{getD}
 
 -- State 0 is between sequences. A beginning that two sets share is one state.
-unfoldable pub begun : List (List ℕ)
-begun =
+unfoldable pub beginnings : List (List ℕ)
+beginnings =
     [] ∷  -- 0
     (0xe0 ∷ []) ∷  -- 1, sets 1 and 2
     (0xf0 ∷ []) ∷  -- 2, sets 2 and 3
@@ -25,4 +25,4 @@ begun =
 
 -- The bytes that led to a state.
 unfoldable pub seen : ℕ → List ℕ
-seen state = getD begun state []
+seen state = getD beginnings state []

@@ -1,5 +1,5 @@
 -- A key is found only in its own code: bytes that belong to no sequence give no key, whatever the state. Assumes nothing.
-use mathlib.Core.Path.{_≡_, refl, sym, ap, subst}
+use mathlib.Core.Path.{_≡_, refl, sym, subst}
 use mathlib.Core.Bool.{Bool, true, false, not}
 use mathlib.Core.Logic.{_⊎_, inl, inr}
 use mathlib.Core.List.{List, [], _∷_, _++_}
@@ -7,7 +7,7 @@ use Prim.Native.Nat.{ℕ, zero, suc, _<_, _≤_}
 use native.Mathlib.Nat.{not-suc-le-zero}
 use native.Mathlib.Omega.{arith}
 use lib.Dec.{T, eqb, leb, leb→le}
-use Rattle.basics.specs.Choice.{pick, both, either, between}
+use Rattle.basics.specs.Choice.{both, either, between}
 use Rattle.basics.proofs.Tables.{allBelow, below, both-left, both-right}
 use Rattle.keys.specs.Keys.{rows, rowOf, codeIn}
 use Rattle.lookup.specs.Lookup.{keyWith, firstWith}
@@ -15,8 +15,7 @@ use Rattle.codes.specs.declared.Form.the-variants.{Plain, Other}
 use Rattle.codes.specs.Codes.{makeOf, breakOf, prefix, codeOf}
 use Rattle.reader.specs.declared.Event.{Event}
 use Rattle.reader.specs.declared.Event.the-variants.{More, Pressed, Released, PauseStruck, Wrapping, Overrun, Unknown, BadState, BadSet}
-use Rattle.reader.specs.declared.Answer.{Answer}
-use Rattle.reader.specs.States.{begun, seen}
+use Rattle.reader.specs.States.{beginnings, seen}
 use Rattle.reader.specs.Reader.{readByte, inSet1, inSet2, inSet3, heard}
 use Rattle.roundtrip.specs.OwnCode.{GoesDown, ComesUp}
 use Rattle.roundtrip.proofs.Lists.{same, same-is-equal}
@@ -48,15 +47,15 @@ everywhere : ℕ → Bool
 everywhere set = allBelow (λ state. allBelow (rightAt set state) 256) 15
 
 in-set-1 : T (everywhere 1)
-unfolding everywhere rightAt right isCode begun seen rows rowOf codeIn keyWith firstWith makeOf breakOf prefix codeOf readByte inSet1 heard
+unfolding everywhere rightAt right isCode beginnings seen rows rowOf codeIn keyWith firstWith makeOf breakOf prefix codeOf readByte inSet1 heard
 in-set-1 = tt
 
 in-set-2 : T (everywhere 2)
-unfolding everywhere rightAt right isCode begun seen rows rowOf codeIn keyWith firstWith makeOf breakOf prefix codeOf readByte inSet2 heard
+unfolding everywhere rightAt right isCode beginnings seen rows rowOf codeIn keyWith firstWith makeOf breakOf prefix codeOf readByte inSet2 heard
 in-set-2 = tt
 
 in-set-3 : T (everywhere 3)
-unfolding everywhere rightAt right isCode begun seen rows rowOf codeIn keyWith firstWith makeOf breakOf prefix codeOf readByte inSet3
+unfolding everywhere rightAt right isCode beginnings seen rows rowOf codeIn keyWith firstWith makeOf breakOf prefix codeOf readByte inSet3
 in-set-3 = tt
 
 at : (set state byte : ℕ) → 1 ≤ set → set ≤ 3 → state ≤ 14 → byte < 256 → T (rightAt set state byte)

@@ -1,31 +1,26 @@
 -- Read back, the bytes of a key give that key and that event. Assumes nothing.
-use mathlib.Core.Path.{_≡_, refl, sym, ap, _∙_}
+use mathlib.Core.Path.{_≡_, refl, ap}
 use mathlib.Core.Logic.{_⊎_, inl, inr}
-use mathlib.Core.Bool.{Bool, true, false, not}
-use mathlib.Core.List.{List, [], _∷_, _++_, map}
-use Prim.Native.Nat.{ℕ, zero, suc, _+_, _-_, _<_, _≤_}
+use mathlib.Core.Bool.{Bool}
+use mathlib.Core.List.{List, [], _∷_, map}
+use Prim.Native.Nat.{ℕ, zero, suc, _+_, _≤_}
 use native.Mathlib.Nat.{not-suc-le-zero}
 use native.Mathlib.Omega.{arith}
 use lib.ListN.{length, getD}
-use Rattle.basics.specs.Choice.{pick, both, either}
 use Rattle.basics.specs.Lists.{mapFrom}
 use Rattle.basics.proofs.Tables.{at-each-place}
-use Rattle.keys.specs.declared.Row.{Row}
-use Rattle.keys.specs.Keys.{rows, rowOf, noRow, rowCode, codeIn, altPrint, leftWrap, rightWrap}
+use Rattle.keys.specs.Keys.{rows, rowOf, noRow, codeIn}
+use Rattle.keys.proofs.Laws.{rows-length}
 use Rattle.lookup.specs.Lookup.{keyWith, firstWith}
 use Rattle.codes.specs.declared.Action.{Action}
 use Rattle.codes.specs.declared.Action.the-variants.{Press, Release, Repeat}
 use Rattle.codes.specs.declared.Form.{Form}
 use Rattle.codes.specs.declared.Form.the-variants.{Plain, ShiftLeft, ShiftRight, ShiftBoth, NumLock, Other}
-use Rattle.codes.specs.Codes.{bytesOf, encode, before, after, makeOf, breakOf, prefix, codeOf, pauseBytes, sendsRelease, mayRepeat, formOf, pausesAtOnce}
+use Rattle.codes.specs.Codes.{bytesOf, encode, before, after, makeOf, breakOf, prefix, codeOf, pauseBytes, sendsRelease, mayRepeat, formOf}
 use Rattle.reader.specs.declared.Event.{Event}
 use Rattle.reader.specs.Reader.{readByte, inSet1, inSet2, inSet3, heard}
 use Rattle.reader.specs.Reading.{Run, readAll}
 use Rattle.roundtrip.specs.Wanted.{wanted}
-
-rows-count : length rows ≡ 104
-unfolding rows
-rows-count = refl
 
 -- Every action, every form and every type, and what is computed over each of them.
 actions : List Action
@@ -66,7 +61,7 @@ module _ {B : Type 0} where
   each-key f g e zero low high = absurd (not-suc-le-zero low)
   each-key f g e (suc k) low high =
       let one-more : 1 + k ≡ suc k = omega arith in
-      rw one-more at (at-each-place (λ key r. f key) (λ key r. g key) noRow rows 1 e k (rw rows-count high))
+      rw one-more at (at-each-place (λ key r. f key) (λ key r. g key) noRow rows 1 e k (rw rows-length high))
 
 -- The reader is back where it began, and has noted these events.
 abbrev pub noting : List Event → Run
@@ -117,11 +112,11 @@ module _ (key : ℕ) (low : 1 ≤ key) (high : key ≤ 104) (action : Action) wh
   read-back-form set (inr e) type form = rw e (at-form 2 type (in-set-2 type) form)
 
   -- The demand: in every set, for every key, action, type and choice of modifiers and Num Lock.
-  pub read-back : (set type mods : ℕ) (lock : Bool) → 1 ≤ set → set ≤ 3 → type ≤ 3
-      → readAll set 0 (encode set key action type mods lock) ≡ noting (wanted set key action type)
+  pub read-back : (set type modifiers : ℕ) (lock : Bool) → 1 ≤ set → set ≤ 3 → type ≤ 3
+      → readAll set 0 (encode set key action type modifiers lock) ≡ noting (wanted set key action type)
   unfolding encode formOf
-  read-back zero type mods lock a b h = absurd (not-suc-le-zero a)
-  read-back (suc zero) type mods lock a b h = at-form 1 type (in-set-1 type) (formOf 1 key mods lock)
-  read-back (suc (suc zero)) type mods lock a b h = at-form 2 type (in-set-2 type) (formOf 2 key mods lock)
-  read-back (suc (suc (suc zero))) type mods lock a b h = at-type type h
-  read-back (suc (suc (suc (suc s)))) type mods lock a b h = absurd (omega arith)
+  read-back zero type modifiers lock a b h = absurd (not-suc-le-zero a)
+  read-back (suc zero) type modifiers lock a b h = at-form 1 type (in-set-1 type) (formOf 1 key modifiers lock)
+  read-back (suc (suc zero)) type modifiers lock a b h = at-form 2 type (in-set-2 type) (formOf 2 key modifiers lock)
+  read-back (suc (suc (suc zero))) type modifiers lock a b h = at-type type h
+  read-back (suc (suc (suc (suc s)))) type modifiers lock a b h = absurd (omega arith)

@@ -1,6 +1,5 @@
 -- What a terminal is to find in the bytes of an action (docs/RULES.md, section 4). Assumes nothing.
 use Prim.Native.Nat.{ℕ}
-use mathlib.Core.Bool.{Bool, true, false}
 use mathlib.Core.List.{List, [], _∷_}
 use Rattle.basics.specs.Choice.{pick}
 use Rattle.codes.specs.declared.Action.{Action}

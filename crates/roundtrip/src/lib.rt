@@ -1,1 +1,1 @@
-// Demand 2 as theorems: see specs/ and proofs/.
+// What holds of encoder and reader together (docs/PROMISES.md, demand 2): theorems only, see specs/ and proofs/.

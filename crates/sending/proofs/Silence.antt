@@ -40,20 +40,21 @@ break-long set code =
     behind (shortestRelease set) (prefix code) _ (two-by-cases Long (eqb set 1) 1 2 _ _ (λ e. omega arith) (λ e. omega arith))
 
 -- A press always sends something.
-pub press-some : (set key type mods : ℕ) (lock : Bool) → 1 ≤ length (encode set key Press type mods lock)
+pub press-some : (set key type modifiers : ℕ) (lock : Bool) → 1 ≤ length (encode set key Press type modifiers lock)
 unfolding encode bytesOf pauseBytes
-press-some set key type mods lock =
-    let form = formOf set key mods lock in
+press-some set key type modifiers lock =
+    let form = formOf set key modifiers lock in
     picked (Long 1) (pausesAtOnce set key) _ _
     (picked (Long 1) (isOther form) _ _ (ahead 1 (makeOf (codeIn set 101)) _ (make-some (codeIn set 101))) (omega arith))
     (behind 1 (before set form) _ (make-some (codeOf set key form)))
 
 -- A silent release sends nothing, and any other has as many bytes as the shortest, or more.
-module _ (set key type mods : ℕ) (lock silent : Bool) (e : silent ≡ either (pausesAtOnce set key) (not (sendsRelease set type))) where
+module _ (set key type modifiers : ℕ) (lock silent : Bool)
+    (e : silent ≡ either (pausesAtOnce set key) (not (sendsRelease set type))) where
   broken : List ℕ
-  broken = breakOf set (codeOf set key (formOf set key mods lock)) ++ after set (formOf set key mods lock)
+  broken = breakOf set (codeOf set key (formOf set key modifiers lock)) ++ after set (formOf set key modifiers lock)
 
-  pub release-none : silent ≡ true → encode set key Release type mods lock ≡ []
+  pub release-none : silent ≡ true → encode set key Release type modifiers lock ≡ []
   unfolding encode bytesOf broken
   release-none t = go (pausesAtOnce set key) (sendsRelease set type) (sym e ∙ t)
     where
@@ -65,14 +66,15 @@ module _ (set key type mods : ℕ) (lock silent : Bool) (e : silent ≡ either (
           let z : _≡_ {A = ℕ} 0 1 = cc in
           absurd (omega arith)
 
-  pub release-long : silent ≡ false → shortestRelease set ≤ length (encode set key Release type mods lock)
+  pub release-long : silent ≡ false → shortestRelease set ≤ length (encode set key Release type modifiers lock)
   unfolding encode bytesOf broken
   release-long f = go (pausesAtOnce set key) (sendsRelease set type) (sym e ∙ f)
     where
       go : (p s : Bool) → either p (not s) ≡ false → shortestRelease set ≤ length (pick p [] (pick s broken []))
       go false true n =
-          ahead (shortestRelease set) (breakOf set (codeOf set key (formOf set key mods lock))) (after set (formOf set key mods lock))
-          (break-long set (codeOf set key (formOf set key mods lock)))
+          ahead (shortestRelease set) (breakOf set (codeOf set key (formOf set key modifiers lock)))
+          (after set (formOf set key modifiers lock))
+          (break-long set (codeOf set key (formOf set key modifiers lock)))
       go true s n =
           let y : true ≡ false = n in
           let z : _≡_ {A = ℕ} 0 1 = cc in

@@ -51,21 +51,24 @@ module _ (held : List ℕ) (key type : ℕ) where
       (λ e. rw e)
       (λ n. rw (ne-eqb key 101 n) (sym (set-comm held key 101 1 0 n) ∙ ap (λ (l : List ℕ). set l 101 0) still))
 
-module _ (s : ℕ) (h : (s ≡ 1) ⊎ (s ≡ 2)) (key : ℕ) (low : 1 ≤ key) (high : key ≤ 104) (type mods : ℕ) (lock : Bool) (held : List ℕ) where
+module _ (s : ℕ) (h : (s ≡ 1) ⊎ (s ≡ 2)) (key : ℕ) (low : 1 ≤ key) (high : key ≤ 104) (type modifiers : ℕ) (lock : Bool)
+    (held : List ℕ) where
   heard : (action : Action) (down : List ℕ)
-      → hearsAll s (terminal 0 down) (encode s key action type mods lock) ≡ terminal 0 (noticedAll (wanted 1 key action type) down)
+      → hearsAll s (terminal 0 down) (encode s key action type modifiers lock) ≡ terminal 0 (noticedAll (wanted 1 key action type) down)
   unfolding encode
   heard action down =
       hears-events s 0 down _
-      ∙ ap (λ (r : Run). terminal (r .state) (noticedAll (r .events) down)) (read-back-form key low high action s h type (formOf s key mods lock))
+      ∙ ap (λ (r : Run). terminal (r .state) (noticedAll (r .events) down)) (read-back-form key low high action s h type (formOf s key modifiers lock))
       ∙ ap (λ (events : List Event). terminal 0 (noticedAll events down)) (alike s h key action type)
 
-  pub press-heard : hearsAll s (terminal 0 (set held 101 0)) (encode s key Press type mods lock) ≡ terminal 0 (set (set held key 1) 101 0)
+  pub press-heard : hearsAll s (terminal 0 (set held 101 0)) (encode s key Press type modifiers lock)
+      ≡ terminal 0 (set (set held key 1) 101 0)
   press-heard = heard Press (set held 101 0) ∙ ap (terminal 0) (press-noticed held key type)
 
-  pub release-heard : hearsAll s (terminal 0 (set held 101 0)) (encode s key Release type mods lock) ≡ terminal 0 (set (set held key 0) 101 0)
+  pub release-heard : hearsAll s (terminal 0 (set held 101 0)) (encode s key Release type modifiers lock)
+      ≡ terminal 0 (set (set held key 0) 101 0)
   release-heard = heard Release (set held 101 0) ∙ ap (terminal 0) (release-noticed held key type)
 
   pub repeat-heard : getD held key 0 ≡ 1
-      → hearsAll s (terminal 0 (set held 101 0)) (encode s key Repeat type mods lock) ≡ terminal 0 (set held 101 0)
+      → hearsAll s (terminal 0 (set held 101 0)) (encode s key Repeat type modifiers lock) ≡ terminal 0 (set held 101 0)
   repeat-heard down = heard Repeat (set held 101 0) ∙ ap (terminal 0) (repeat-noticed held key type down)

@@ -1,6 +1,6 @@
 -- `encoder::is_allowed` meets its contract: its tests are those of the definition, in its order. Assumes nothing.
+use mathlib.Core.Bool.{and-assoc}
 use Rattle.encoder.specs.Encoder.{allowed}
-use Rattle.encoder.proofs.Tests.{one-more-test}
 use borrow.Author.Needs.{needs}
 use Rattle.encoder.proofs.is_allowed.Statement.{statement}
 use Rattle.encoder.proofs.is_allowed.Tie as tie
@@ -13,7 +13,7 @@ is-between-requires-2 c κs = search needs
 
 returns : tie.Need-returns
 unfolding allowed
-returns c = simp (one-more-test, c .before .is-between .ensures, c .is-between2 .ensures)
+returns c = rw (← c .before .is-between .ensures, ← c .is-between2 .ensures) (simp and-assoc)
 
 pub is-allowed-spec : {M : Type 1} → statement M
 is-allowed-spec = tie.close (tie.spec is-between-requires is-between-requires-2 returns)
