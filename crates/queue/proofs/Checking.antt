@@ -13,11 +13,11 @@ use lib.Seq.{drop-cons}
 use Rattle.basics.specs.Choice.{both}
 use Rattle.basics.specs.Lists.{allUpTo}
 use Rattle.basics.proofs.Flags.{flag-tells}
-use Rattle.queue.proofs.Places.{clear}
+use Rattle.queue.specs.Queues.{tidyArray}
 
 -- The array is in range if what was seen so far is good and zeros stand behind its bytes from the i-th place on.
 unfoldable pub Seen : ℕ → List ℕ → ℕ → Bool → ℕ → Type 0
-Seen places b n good i = clear places b n ≡ both good (allUpTo 0 (drop (max n i) b))
+Seen places b n good i = tidyArray places b n ≡ both good (allUpTo 0 (drop (max n i) b))
 
 no-more-than-0 : (n : ℕ) → leb n 0 ≡ eqb n 0
 no-more-than-0 zero = refl
@@ -54,8 +54,8 @@ module _ (places : ℕ) (b : List ℕ) (n : ℕ) where
     seen-more true seen = seen ∙ one-place
     seen-more false seen = seen
 
-  pub seen-all : length b ≡ places → (good : Bool) (i : ℕ) → places ≤ i → Seen places b n good i → good ≡ clear places b n
+  pub seen-all : length b ≡ places → (good : Bool) (i : ℕ) → places ≤ i → Seen places b n good i → good ≡ tidyArray places b n
   unfolding Seen allUpTo
   seen-all long good i high seen =
       let none : drop (max n i) b ≡ [] = drop-of-length-le b {i = max n i} (omega arith) in
-      flag-tells (clear places b n) good (rw none at seen)
+      flag-tells (tidyArray places b n) good (rw none at seen)

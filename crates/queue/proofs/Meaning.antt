@@ -11,7 +11,7 @@ use Rattle.codes.specs.Sequences.{holding}
 use Rattle.codes.proofs.Adding.{holding-bytes}
 use Rattle.queue.specs.declared.Queue.{Queue}
 use Rattle.queue.specs.Queues.{queueWith, waiting, queueOf, tidy, contents}
-use Rattle.queue.proofs.Places.{filled-clear, filled-places, clear-short, clear-count, clear-is}
+use Rattle.queue.proofs.Places.{filled-tidy, filled-places, tidy-array-short, tidy-array-count, tidy-array-is}
 
 -- As many bytes wait as the length says, if it is at most 16.
 pub count-waiting : (q : Queue) → length (q .bytes) ≡ 16 → q .length ≤ 16 → length (waiting q) ≡ q .length
@@ -20,7 +20,7 @@ count-waiting q places h = length-take-le (q .length) (q .bytes) (omega arith)
 
 pub tidy-short : (q : Queue) → tidy q ≡ true → q .length ≤ 16
 unfolding tidy
-tidy-short q t = clear-short 16 (q .bytes) (q .length) t
+tidy-short q t = tidy-array-short 16 (q .bytes) (q .length) t
 
 pub length-waiting : (q : Queue) → tidy q ≡ true → length (q .bytes) ≡ 16 → length (waiting q) ≡ q .length
 length-waiting q t places = count-waiting q places (tidy-short q t)
@@ -28,7 +28,7 @@ length-waiting q t places = count-waiting q places (tidy-short q t)
 -- A queue in range is the queue that holds the bytes that wait in it.
 pub tidy-is : (q : Queue) → length (q .bytes) ≡ 16 → tidy q ≡ true → q ≡ queueOf (waiting q)
 unfolding queueOf waiting tidy
-tidy-is q places t = ap₂ queueWith (clear-is 16 (q .bytes) (q .length) t places) (sym (clear-count 16 (q .bytes) (q .length) t places))
+tidy-is q places t = ap₂ queueWith (tidy-array-is 16 (q .bytes) (q .length) t places) (sym (tidy-array-count 16 (q .bytes) (q .length) t places))
 
 -- The queue of some bytes: they wait in it; it is in range if they are at most 16, and has 16 places then.
 pub waiting-queueOf : (l : List ℕ) → waiting (queueOf l) ≡ l
@@ -37,7 +37,7 @@ waiting-queueOf l = take-append-seam l _
 
 pub tidy-queueOf : (l : List ℕ) → length l ≤ 16 → tidy (queueOf l) ≡ true
 unfolding tidy queueOf
-tidy-queueOf = filled-clear 16
+tidy-queueOf = filled-tidy 16
 
 pub places-queueOf : (l : List ℕ) → length l ≤ 16 → length (queueOf l .bytes) ≡ 16
 unfolding queueOf

@@ -9,7 +9,7 @@ use lib.ListN.{length, take, drop, getD, length-take, length-drop}
 use lib.Seq.{take-append-seam}
 use Rattle.queue.specs.declared.replies.Replies.{Replies}
 use Rattle.queue.specs.Replies.{waitingReplies, repliesOf, tidyReplies}
-use Rattle.queue.proofs.Places.{filled-clear, filled-places, clear-short, clear-count, popped-bytes, popped-count}
+use Rattle.queue.proofs.Places.{filled-tidy, filled-places, tidy-array-short, tidy-array-count, popped-bytes, popped-count}
 use Rattle.queue.proofs.Checking.{seen-none, seen-more, seen-all}
 
 -- The replies by their two fields.
@@ -18,11 +18,11 @@ replies bytes count = record { bytes = bytes; length = count }
 
 pub replies-short : (r : Replies) → tidyReplies r ≡ true → r .length ≤ 3
 unfolding tidyReplies
-replies-short r t = clear-short 3 (r .bytes) (r .length) t
+replies-short r t = tidy-array-short 3 (r .bytes) (r .length) t
 
 pub length-waitingReplies : (r : Replies) → tidyReplies r ≡ true → length (r .bytes) ≡ 3 → length (waitingReplies r) ≡ r .length
 unfolding tidyReplies waitingReplies
-length-waitingReplies r t places = clear-count 3 (r .bytes) (r .length) t places
+length-waitingReplies r t places = tidy-array-count 3 (r .bytes) (r .length) t places
 
 -- The replies that are some bytes: they wait; they are in range if they are at most three, and have three places then.
 pub waiting-repliesOf : (l : List ℕ) → waitingReplies (repliesOf l) ≡ l
@@ -31,7 +31,7 @@ waiting-repliesOf l = take-append-seam l _
 
 pub tidy-repliesOf : (l : List ℕ) → length l ≤ 3 → tidyReplies (repliesOf l) ≡ true
 unfolding tidyReplies repliesOf
-tidy-repliesOf = filled-clear 3
+tidy-repliesOf = filled-tidy 3
 
 pub places-repliesOf : (l : List ℕ) → length l ≤ 3 → length (repliesOf l .bytes) ≡ 3
 unfolding repliesOf

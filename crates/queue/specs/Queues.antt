@@ -21,9 +21,13 @@ waiting q = take (q .length) (q .bytes)
 unfoldable pub queueOf : List ℕ → Queue
 queueOf bytes = record { bytes = bytes ++ replicate (16 - length bytes) 0; length = length bytes }
 
--- The range of a queue: at most 16 bytes wait, and zeros stand behind them. So its meaning fixes it.
+-- The first so many bytes of an array wait, no more than it has places, and zeros stand behind them.
+abbrev pub tidyArray : ℕ → List ℕ → ℕ → Bool
+tidyArray places bytes count = both (leb count places) (allUpTo 0 (drop count bytes))
+
+-- The range of a queue, which has 16 places. So its meaning fixes it.
 unfoldable pub tidy : Queue → Bool
-tidy q = both (leb (q .length) 16) (allUpTo 0 (drop (q .length) (q .bytes)))
+tidy q = tidyArray 16 (q .bytes) (q .length)
 
 -- The bytes of a sequence.
 unfoldable pub contents : Sequence → List ℕ

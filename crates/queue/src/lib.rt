@@ -95,7 +95,7 @@ pub fn popped(q: Queue) -> Queue
     let mut e = q;
     let mut i: usize = 0;
     while i < 15 {
-        e.bytes[i] = if i + 1 < n { q.bytes[i + 1] } else { 0 };
+        e.bytes[i] = q.bytes[i + 1];
         i += 1;
     }
     e.bytes[15] = 0;
