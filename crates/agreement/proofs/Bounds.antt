@@ -19,7 +19,7 @@ use Rattle.dock.specs.Read.{oldest, behindIt, oldestReply, repliesBehind, remem
 use Rattle.frames.specs.declared.Unpacked.{Unpacked}
 use Rattle.frames.specs.declared.Unpacked.the-variants.{Byte, Broken, TooLarge}
 use Rattle.frames.specs.Frames.{unpackedOf}
-use Rattle.host.specs.Commands.{replyTo, commanded, rightValue, given, tookByte}
+use Rattle.host.specs.Commands.{replyTo, commanded, rightValue, tookValue, tookByte}
 use Rattle.host.proofs.InRange.{reply-short}
 use Rattle.maps.specs.Maps.{hasDouble}
 use Rattle.queue.specs.declared.replies.Replies.{Replies}
@@ -72,11 +72,11 @@ swap-replies d map =
 
 -- A host byte is answered with three bytes at most.
 took-roomy : (byte : ℕ) (d : Dock) → Roomy (tookByte byte d)
-unfolding tookByte commanded given
+unfolding tookByte commanded tookValue
 took-roomy byte d =
     let one : (answer : ℕ) → length (repliesOf (answer ∷ []) .bytes) ≡ 3 = λ answer. places-repliesOf (answer ∷ []) (omega arith) in
     picked Roomy (eqb byte 0xfe) _ _ (one (d .given))
-    (picked Roomy (leb 0xed byte) (commanded byte d) (given byte d)
+    (picked Roomy (leb 0xed byte) (commanded byte d) (tookValue byte d)
     (places-repliesOf (replyTo byte) (reply-short byte))
     (picked Roomy (rightValue (d .waiting) byte) _ _ (one 0xfa) (one 0xfe)))
 

@@ -16,7 +16,7 @@ use Rattle.frames.specs.declared.Unpacked.the-variants.{Byte, Broken, TooLarge}
 use Rattle.frames.specs.Frames.{unpackedOf}
 use Rattle.history.specs.Scans.{countedAll}
 use Rattle.host.specs.Commands.{replying, cleared, unrepeated, readied, enabled, defaulted, disabled, typed, restarted}
-use Rattle.host.specs.Commands.{obeyed, commanded, rightValue, valued, given, tookByte}
+use Rattle.host.specs.Commands.{obeyed, commanded, rightValue, valued, tookValue, tookByte}
 use Rattle.queue.proofs.Meaning.{places-queueOf}
 use Rattle.record.specs.declared.Dock.{Dock}
 use Rattle.record.specs.Parts.{withWaiting}
@@ -76,9 +76,9 @@ module _ (d : Dock) (scans : List (List ℕ)) (r : IsReady d scans) (byte : ℕ)
       (rw other r))))))
 
   -- A value.
-  given-ready : IsReady (given byte d) scans
-  unfolding given valued Fine
-  given-ready =
+  value-ready : IsReady (tookValue byte d) scans
+  unfolding tookValue valued Fine
+  value-ready =
       picked Fine (rightValue (d .waiting) byte) _ _
       (picked Fine (eqb (d .waiting) 0xed) _ _ r (picked Fine (eqb (d .waiting) 0xf0) _ _ r (picked Fine (eqb (d .waiting) 0xf3) _ _ r r)))
       r
@@ -91,8 +91,8 @@ module _ (d : Dock) (scans : List (List ℕ)) (r : IsReady d scans) (byte : ℕ)
       go : (reset : Bool) → eqb byte 0xff ≡ reset → IsReady (tookByte byte d) (pick reset [] scans)
       go true e = rw (eqb-true byte 0xff e) (fresh-ready d scans r)
       go false e =
-          picked Fine (eqb byte 0xfe) (replying (d .given ∷ []) d) (pick (leb 0xed byte) (commanded byte d) (given byte d)) r
-          (picked Fine (leb 0xed byte) (commanded byte d) (given byte d) (obeyed-ready e) given-ready)
+          picked Fine (eqb byte 0xfe) (replying (d .given ∷ []) d) (pick (leb 0xed byte) (commanded byte d) (tookValue byte d)) r
+          (picked Fine (leb 0xed byte) (commanded byte d) (tookValue byte d) (obeyed-ready e) value-ready)
 
 -- The call, refused or not.
 pub frame-settled : (d : Dock) (scans : List (List ℕ)) (number : ℕ) → inRange d ≡ true → Settled d scans
@@ -164,9 +164,9 @@ module _ (d : Dock) (t : Terminal) (f : Follows d t) (byte : ℕ) where
       })
 
   -- A value: only that of F0 chooses a set.
-  given-follows : Follows (given byte d) t
-  unfolding given valued
-  given-follows =
+  value-follows : Follows (tookValue byte d) t
+  unfolding tookValue valued
+  value-follows =
       let Fine : Dock → Type 0 = λ (e : Dock). Follows (replying (0xfa ∷ []) (withWaiting e 0)) t in
       let same : Follows (withWaiting d 0) t = record { chosen = f .chosen; firm = λ e. omega arith; told = f .told } in
       picked (λ (e : Dock). Follows e t) (rightValue (d .waiting) byte) _ _
@@ -182,7 +182,7 @@ module _ (d : Dock) (t : Terminal) (f : Follows d t) (byte : ℕ) where
   took-follows c =
       let Fine : Dock → Type 0 = λ (e : Dock). Follows e t in
       picked Fine (eqb byte 0xfe) (replying (d .given ∷ []) d) _ f
-      (picked Fine (leb 0xed byte) (commanded byte d) (given byte d) (commanded-follows (mild byte c)) given-follows)
+      (picked Fine (leb 0xed byte) (commanded byte d) (tookValue byte d) (commanded-follows (mild byte c)) value-follows)
 
 -- The call, refused or not.
 pub frame-follows : (d : Dock) (t : Terminal) (number : ℕ) → inRange d ≡ true → isClearing number ≡ false → Follows d t

@@ -24,7 +24,7 @@ use Rattle.dock.specs.Read.{oldest, behindIt, oldestReply, repliesBehind, remem
 use Rattle.frames.specs.declared.Unpacked.{Unpacked}
 use Rattle.frames.specs.declared.Unpacked.the-variants.{Byte, Broken, TooLarge}
 use Rattle.frames.specs.Frames.{unpackedOf}
-use Rattle.host.specs.Commands.{replying, commanded, rightValue, valued, given, tookByte}
+use Rattle.host.specs.Commands.{replying, commanded, rightValue, valued, tookValue, tookByte}
 use Rattle.maps.specs.Maps.{hasDouble}
 use Rattle.queue.specs.Queues.{waiting}
 use Rattle.queue.proofs.Meaning.{waiting-queueOf}
@@ -65,11 +65,11 @@ module _ (d : Dock) where
 
   -- Nor does a byte from the host, unless it clears the queue.
   took-keys : (byte : ℕ) → clears byte ≡ false → tookByte byte d .keys ≡ d .keys
-  unfolding tookByte commanded given valued
+  unfolding tookByte commanded tookValue valued
   took-keys byte mildly =
       let Same : Dock → Type 0 = λ (e : Dock). e .keys ≡ d .keys in
       picked Same (eqb byte 0xfe) _ _ refl
-      (picked Same (leb 0xed byte) (commanded byte d) (given byte d)
+      (picked Same (leb 0xed byte) (commanded byte d) (tookValue byte d)
       (ap (λ (e : Dock). e .keys) (obeyed-mild byte d (mild byte mildly)))
       (picked Same (rightValue (d .waiting) byte) _ _
       (picked Same (eqb (d .waiting) 0xed) _ _ refl

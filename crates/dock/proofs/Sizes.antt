@@ -12,7 +12,7 @@ use Rattle.contacts.proofs.Pointwise.{closed-length, counts-length}
 use Rattle.frames.specs.declared.Unpacked.{Unpacked}
 use Rattle.frames.specs.declared.Unpacked.the-variants.{Byte, Broken, TooLarge}
 use Rattle.frames.specs.Frames.{unpackedOf}
-use Rattle.host.specs.Commands.{readied, enabled, defaulted, disabled, typed, cleared, restarted, obeyed, commanded, rightValue, valued, given, tookByte}
+use Rattle.host.specs.Commands.{readied, enabled, defaulted, disabled, typed, cleared, restarted, obeyed, commanded, rightValue, valued, tookValue, tookByte}
 use Rattle.maps.specs.Maps.{hasDouble}
 use Rattle.record.specs.declared.Dock.{Dock}
 use Rattle.record.specs.Parts.{withMap}
@@ -110,7 +110,7 @@ valued-sizes command value d s =
     (picked Sizes (eqb command 0xf3) _ _ (like d _ s refl) (like d _ s refl)))
 
 took-sizes : (byte : ℕ) (d : Dock) → Sizes d → Sizes (tookByte byte d)
-unfolding tookByte commanded given
+unfolding tookByte commanded tookValue
 took-sizes byte d s =
     picked Sizes (eqb byte 0xfe) _ _ (like d _ s refl)
     (picked Sizes (leb 0xed byte) _ _

@@ -16,16 +16,16 @@ use Rattle.queue.specs.Replies.{repliesOf}
 use Rattle.queue.proofs.Meaning.{tidy-queueOf}
 use Rattle.queue.proofs.ReplyMeaning.{tidy-repliesOf}
 use Rattle.record.specs.declared.Dock.{Dock}
-use Rattle.record.specs.Power.{defaultTypes}
+use Rattle.record.specs.Power.{defaultTypes, defaultRate}
 use Rattle.record.specs.Range.{takesValue, goodWaiting, inRange}
 use Rattle.record.proofs.Ranges.{good-mode, good-mode-set, good-mode-rate, good-mode-indicators, good-keys-with-queue, good-keys-with-repeat}
 use Rattle.record.proofs.Ranges.{in-range-map, in-range-keys, in-range-mode, in-range-replies}
 use Rattle.record.proofs.Ranges.{in-range-with-keys, in-range-with-types, in-range-with-mode}
 use Rattle.record.proofs.Ranges.{in-range-with-replies, in-range-with-waiting, in-range-with-scanning}
 use Rattle.record.proofs.PowerOn.{fresh-in-range}
-use Rattle.host.specs.Commands.{replying, cleared, unrepeated, withSet, withRate, withIndicators, withType}
+use Rattle.host.specs.Commands.{replying, cleared, unrepeated, quietened, withSet, withRate, withIndicators, withType}
 use Rattle.host.specs.Commands.{readied, enabled, defaulted, disabled, typed, restarted, obeyed, replyTo, commanded}
-use Rattle.host.specs.Commands.{rightValue, valued, given, tookByte}
+use Rattle.host.specs.Commands.{rightValue, valued, tookValue, tookByte}
 
 abbrev Short : List ℕ → Type 0
 Short l = length l ≤ 3
@@ -80,14 +80,14 @@ module _ (d : Dock) (h : inRange d ≡ true) where
   restarted-in-range = fresh-in-range (d .map) (d .replies) (in-range-map d h) (in-range-replies d h)
 
 module _ (d : Dock) (h : inRange d ≡ true) where
-  still-in-range : inRange (unrepeated (cleared d)) ≡ true
-  still-in-range = unrepeated-in-range (cleared d) (cleared-in-range d h)
+  quietened-in-range : inRange (quietened d) ≡ true
+  quietened-in-range = unrepeated-in-range (cleared d) (cleared-in-range d h)
 
   defaulted-in-range : inRange (defaulted d) ≡ true
   defaulted-in-range =
-      let still = unrepeated (cleared d) in
-      let set = set-in-range still still-in-range 2 (omega arith) (omega arith) in
-      in-range-with-types (withRate 0x2b (withSet 2 still)) (rate-in-range (withSet 2 still) set 0x2b (omega arith)) defaultTypes
+      let quiet = quietened d in
+      let set = set-in-range quiet quietened-in-range 2 (omega arith) (omega arith) in
+      in-range-with-types (withRate defaultRate (withSet 2 quiet)) (rate-in-range (withSet 2 quiet) set defaultRate (omega arith)) defaultTypes
 
   typed-in-range : (kind : ℕ) → inRange (typed kind d) ≡ true
   typed-in-range kind = in-range-with-types (cleared d) (cleared-in-range d h) (replicate 105 kind)
@@ -96,8 +96,8 @@ module _ (d : Dock) (h : inRange d ≡ true) where
   obeyed-in-range : (byte : ℕ) → inRange (obeyed byte d) ≡ true
   unfolding obeyed
   obeyed-in-range byte =
-      picked InRange (eqb byte 0xf0) (readied d) _ (rate-in-range (unrepeated (cleared d)) still-in-range 0x2b (omega arith))
-      (picked InRange (eqb byte 0xf4) (enabled d) _ (in-range-with-scanning (unrepeated (cleared d)) still-in-range true)
+      picked InRange (eqb byte 0xf0) (readied d) _ (rate-in-range (quietened d) quietened-in-range defaultRate (omega arith))
+      (picked InRange (eqb byte 0xf4) (enabled d) _ (in-range-with-scanning (quietened d) quietened-in-range true)
       (picked InRange (eqb byte 0xf5) (disabled d) _ (in-range-with-scanning (defaulted d) defaulted-in-range false)
       (picked InRange (eqb byte 0xf6) (defaulted d) _ defaulted-in-range
       (picked InRange (between 0xf7 0xfa byte) (typed (byte - 0xf7) d) _ (typed-in-range (byte - 0xf7))
@@ -124,9 +124,9 @@ module _ (d : Dock) (h : inRange d ≡ true) where
       go key false false true e = rate-in-range d h value (leb-true value 127 e)
       go key false false false e = type-in-range d h key (command - 0xfb)
 
-  given-in-range : (byte : ℕ) → inRange (given byte d) ≡ true
-  unfolding given
-  given-in-range byte =
+  value-in-range : (byte : ℕ) → inRange (tookValue byte d) ≡ true
+  unfolding tookValue
+  value-in-range byte =
       by-cases InRange (rightValue (d .waiting) byte) _ _
       (λ e. replying-in-range _ (in-range-with-waiting (valued (d .waiting) byte d) (valued-in-range (d .waiting) byte e) 0 refl) (0xfa ∷ []) (omega arith))
       (λ e. replying-in-range d h (0xfe ∷ []) (omega arith))
@@ -136,4 +136,4 @@ module _ (d : Dock) (h : inRange d ≡ true) where
   unfolding tookByte
   took-in-range byte =
       picked InRange (eqb byte 0xfe) _ _ (replying-in-range d h (d .given ∷ []) (omega arith))
-      (picked InRange (leb 0xed byte) (commanded byte d) (given byte d) (commanded-in-range byte) (given-in-range byte))
+      (picked InRange (leb 0xed byte) (commanded byte d) (tookValue byte d) (commanded-in-range byte) (value-in-range byte))

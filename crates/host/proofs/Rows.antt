@@ -15,7 +15,7 @@ use Rattle.record.specs.declared.Dock.{Dock}
 use Rattle.record.specs.Parts.{withReplies, withWaiting}
 use Rattle.record.specs.Range.{takesValue}
 use Rattle.host.specs.Commands.{replying, cleared, typed, restarted, obeyed, replyTo, commanded}
-use Rattle.host.specs.Commands.{withType, rightValue, valued, given, tookByte}
+use Rattle.host.specs.Commands.{withType, rightValue, valued, tookValue, tookByte}
 
 -- What a command does at once.
 module _ (byte : ℕ) (d : Dock) where
@@ -93,28 +93,28 @@ module _ (command value : ℕ) where
     valued-type d key e = rw (ne-eqb command 0xed a, ne-eqb command 0xf0 b, ne-eqb command 0xf3 c, e)
 
     module _ (r : rightValue command value ≡ true) where
-      both-right : both (between 0xfb 0xfd command) (between 1 104 (keyWith 3 value)) ≡ true
-      both-right = sym key-type-row ∙ r
+      right-row : both (between 0xfb 0xfd command) (between 1 104 (keyWith 3 value)) ≡ true
+      right-row = sym key-type-row ∙ r
 
       pub right-command : (0xfb ≤ command) × (command ≤ 0xfd)
       right-command =
-          let h = both-right in
+          let h = right-row in
           (leb-true 0xfb command (search (left-of-both, right-of-both)), leb-true command 0xfd (search (left-of-both, right-of-both)))
 
       pub right-key : keyWith 3 value ≤ 104
       right-key =
-          let h = both-right in
+          let h = right-row in
           leb-true (keyWith 3 value) 104 (search (left-of-both, right-of-both))
 
 -- A byte below ED.
 module _ (byte : ℕ) (d : Dock) (b : Bool) (e : b ≡ rightValue (d .waiting) byte) where
-  pub given-wrong : b ≡ false → replying (0xfe ∷ []) d ≡ given byte d
-  unfolding given
-  given-wrong f = rw (← e, f)
+  pub value-wrong : b ≡ false → replying (0xfe ∷ []) d ≡ tookValue byte d
+  unfolding tookValue
+  value-wrong f = rw (← e, f)
 
-  pub given-right : b ≡ true → (new : Dock) → new ≡ valued (d .waiting) byte d → replying (0xfa ∷ []) (withWaiting new 0) ≡ given byte d
-  unfolding given
-  given-right t new f = rw (← e, t, f)
+  pub value-right : b ≡ true → (new : Dock) → new ≡ valued (d .waiting) byte d → replying (0xfa ∷ []) (withWaiting new 0) ≡ tookValue byte d
+  unfolding tookValue
+  value-right t new f = rw (← e, t, f)
 
 -- A byte.
 module _ (byte : ℕ) (d : Dock) where
@@ -122,7 +122,7 @@ module _ (byte : ℕ) (d : Dock) where
   unfolding tookByte
   took-resend e = rw e
 
-  pub took-value : byte < 0xed → given byte d ≡ tookByte byte d
+  pub took-value : byte < 0xed → tookValue byte d ≡ tookByte byte d
   unfolding tookByte
   took-value h = rw (ne-eqb byte 0xfe (λ e. omega arith), lt-leb 0xed byte h)
 

@@ -10,7 +10,7 @@ use Rattle.queue.specs.Queues.{queueOf}
 use Rattle.queue.specs.Replies.{repliesOf}
 use Rattle.record.specs.declared.Dock.{Dock}
 use Rattle.record.specs.Parts.{withKeys, withTypes, withMode, withReplies, withScanning, withWaiting, withQueue, withRepeat}
-use Rattle.record.specs.Power.{freshWith, defaultTypes}
+use Rattle.record.specs.Power.{freshWith, defaultTypes, defaultRate}
 use Rattle.record.specs.Range.{takesValue}
 
 -- The replies that a byte leaves waiting, instead of those before.
@@ -23,6 +23,10 @@ cleared d = withKeys d (withQueue (d .keys) (queueOf []))
 
 abbrev pub unrepeated : Dock → Dock
 unrepeated d = withKeys d (withRepeat (d .keys) 0 0)
+
+-- Both: nothing queued, nothing repeating.
+abbrev pub quietened : Dock → Dock
+quietened d = unrepeated (cleared d)
 
 -- A part of the mode replaced, and the type of one key.
 abbrev pub withSet : ℕ → Dock → Dock
@@ -37,22 +41,22 @@ withIndicators indicators d = withMode d (record { set = d .mode .set; rate = d 
 abbrev pub withType : ℕ → ℕ → Dock → Dock
 withType key kind d = withTypes d (set (d .types) key kind)
 
--- F0, until the set is given: the default rate.
+-- F0, until the set is given: nothing queued, nothing repeating, the default rate.
 abbrev pub readied : Dock → Dock
-readied d = withRate 0x2b (unrepeated (cleared d))
+readied d = withRate defaultRate (quietened d)
 
--- F4: scanning on.
+-- F4: nothing queued, nothing repeating, scanning on.
 abbrev pub enabled : Dock → Dock
-enabled d = withScanning (unrepeated (cleared d)) true
+enabled d = withScanning (quietened d) true
 
--- F6: set 2, the default rate and types. F5: scanning off too.
+-- F6: nothing queued, nothing repeating, set 2, the default rate and types. F5: scanning off too.
 abbrev pub defaulted : Dock → Dock
-defaulted d = withTypes (withRate 0x2b (withSet 2 (unrepeated (cleared d)))) defaultTypes
+defaulted d = withTypes (withRate defaultRate (withSet 2 (quietened d))) defaultTypes
 
 abbrev pub disabled : Dock → Dock
 disabled d = withScanning (defaulted d) false
 
--- F7 to FA: every key has the same type.
+-- F7 to FA: nothing queued, and every key has the same type.
 abbrev pub typed : ℕ → Dock → Dock
 typed kind d = withTypes (cleared d) (replicate 105 kind)
 
@@ -102,8 +106,8 @@ valued command value d =
     (withType (keyWith 3 value) (command - 0xfb) d)))
 
 -- A byte below ED: a value that the waiting command takes, or nothing that the dock knows.
-unfoldable pub given : ℕ → Dock → Dock
-given byte d =
+unfoldable pub tookValue : ℕ → Dock → Dock
+tookValue byte d =
     pick (rightValue (d .waiting) byte)
     (replying (0xfa ∷ []) (withWaiting (valued (d .waiting) byte d) 0))
     (replying (0xfe ∷ []) d)
@@ -112,4 +116,4 @@ given byte d =
 unfoldable pub tookByte : ℕ → Dock → Dock
 tookByte byte d =
     pick (eqb byte 0xfe) (replying (d .given ∷ []) d)
-    (pick (leb 0xed byte) (commanded byte d) (given byte d))
+    (pick (leb 0xed byte) (commanded byte d) (tookValue byte d))

@@ -1,17 +1,13 @@
 // What each command does at once. The arrays are lent where a command changes them, and the rest of the record is passed.
 use crate::answers::reply_to;
-use record::Mode;
-use record::Outgoing;
 use record::Rest;
-ghost use mathlib.Core.Path.{_≡_};
-ghost use mathlib.Core.List.{List};
-ghost use Prim.Native.Nat.{ℕ};
-ghost use Rattle.record.specs.Apart.{dockWith};
-ghost use Rattle.host.specs.Commands.{cleared, unrepeated, readied, enabled, defaulted, disabled, typed, restarted, obeyed, commanded};
+use record::power::DEFAULT_RATE;
+ghost use Rattle.record.specs.Apart.{RestAfter, TypesAfter, ArraysAfter};
+ghost use Rattle.host.specs.Commands.{cleared, quietened, readied, enabled, defaulted, disabled, typed, restarted, obeyed, commanded};
 
 // No key byte waits.
 fn clear(r: Rest) -> Rest
-    ensures { λ e. ⌜ ((map closed counts held types : List ℕ) → dockWith map closed counts held types e ≡ cleared (dockWith map closed counts held types r)) ⌝ }
+    ensures { λ e. ⌜ RestAfter cleared r e ⌝ }
 {
     let mut o = r.outgoing;
     o.queue = queue::empty();
@@ -22,7 +18,7 @@ fn clear(r: Rest) -> Rest
 
 // No key byte waits, and no key repeats.
 fn quieten(r: Rest) -> Rest
-    ensures { λ e. ⌜ ((map closed counts held types : List ℕ) → dockWith map closed counts held types e ≡ unrepeated (cleared (dockWith map closed counts held types r))) ⌝ }
+    ensures { λ e. ⌜ RestAfter quietened r e ⌝ }
 {
     let mut o = r.outgoing;
     o.queue = queue::empty();
@@ -35,10 +31,10 @@ fn quieten(r: Rest) -> Rest
 
 // F0, until the set is given: nothing queued, nothing repeating, default rate.
 fn ready_for_set(r: Rest) -> Rest
-    ensures { λ e. ⌜ ((map closed counts held types : List ℕ) → dockWith map closed counts held types e ≡ readied (dockWith map closed counts held types r)) ⌝ }
+    ensures { λ e. ⌜ RestAfter readied r e ⌝ }
 {
     let mut m = r.mode;
-    m.rate = 0x2b;
+    m.rate = DEFAULT_RATE;
     let mut e = quieten(r);
     e.mode = m;
     e
@@ -46,7 +42,7 @@ fn ready_for_set(r: Rest) -> Rest
 
 // F4: nothing queued, nothing repeating, scanning on.
 fn enable(r: Rest) -> Rest
-    ensures { λ e. ⌜ ((map closed counts held types : List ℕ) → dockWith map closed counts held types e ≡ enabled (dockWith map closed counts held types r)) ⌝ }
+    ensures { λ e. ⌜ RestAfter enabled r e ⌝ }
 {
     let mut on = quieten(r);
     on.scanning = true;
@@ -55,11 +51,11 @@ fn enable(r: Rest) -> Rest
 
 // F6: nothing queued, nothing repeating, set 2, default rate and types.
 fn set_default(types: &mut [u8; 105], r: Rest) -> Rest
-    ensures { λ e. ⌜ ((map closed counts held : List ℕ) → dockWith map closed counts held (now (types .exit)) e ≡ defaulted (dockWith map closed counts held (now (types .entry)) r)) ⌝ }
+    ensures { λ e. ⌜ TypesAfter defaulted (now (types .entry)) r (now (types .exit)) e ⌝ }
 {
     let mut m = r.mode;
     m.set = 2;
-    m.rate = 0x2b;
+    m.rate = DEFAULT_RATE;
     let defaults = record::power::default_types();
     *types = defaults;
     let mut e = quieten(r);
@@ -69,7 +65,7 @@ fn set_default(types: &mut [u8; 105], r: Rest) -> Rest
 
 // F5: the same, and scanning off.
 fn disable(types: &mut [u8; 105], r: Rest) -> Rest
-    ensures { λ e. ⌜ ((map closed counts held : List ℕ) → dockWith map closed counts held (now (types .exit)) e ≡ disabled (dockWith map closed counts held (now (types .entry)) r)) ⌝ }
+    ensures { λ e. ⌜ TypesAfter disabled (now (types .entry)) r (now (types .exit)) e ⌝ }
 {
     let mut off = set_default(types, r);
     off.scanning = false;
@@ -78,7 +74,7 @@ fn disable(types: &mut [u8; 105], r: Rest) -> Rest
 
 // F7 to FA: nothing queued, and every key of one type.
 fn set_all_types(types: &mut [u8; 105], r: Rest, kind: u8) -> Rest
-    ensures { λ e. ⌜ ((map closed counts held : List ℕ) → dockWith map closed counts held (now (types .exit)) e ≡ typed kind (dockWith map closed counts held (now (types .entry)) r)) ⌝ }
+    ensures { λ e. ⌜ TypesAfter (typed kind) (now (types .entry)) r (now (types .exit)) e ⌝ }
 {
     let all = [kind; 105];
     *types = all;
@@ -93,7 +89,9 @@ fn reset(
     types: &mut [u8; 105],
     r: Rest,
 ) -> Rest
-    ensures { λ e. ⌜ ((map : List ℕ) → dockWith map (now (closed .exit)) (now (counts .exit)) (now (held .exit)) (now (types .exit)) e ≡ restarted (dockWith map (now (closed .entry)) (now (counts .entry)) (now (held .entry)) (now (types .entry)) r)) ⌝ }
+    ensures { λ e. ⌜ ArraysAfter restarted
+        (now (closed .entry)) (now (counts .entry)) (now (held .entry)) (now (types .entry)) r
+        (now (closed .exit)) (now (counts .exit)) (now (held .exit)) (now (types .exit)) e ⌝ }
 {
     let no_columns = [0; 18];
     let no_keys = [0; 144];
@@ -103,23 +101,7 @@ fn reset(
     *held = no_keys;
     *types = defaults;
     let replies = r.replies;
-    Rest {
-        outgoing: Outgoing {
-            queue: queue::empty(),
-            repeating: 0,
-            clock: 0,
-        },
-        mode: Mode {
-            set: 2,
-            rate: 0x2b,
-            indicators: 0,
-        },
-        replies,
-        scanning: true,
-        waiting: 0,
-        handover: false,
-        given: 0xfe,
-    }
+    record::power::fresh_rest(replies)
 }
 
 // What a command does at once. FB to FD clear, and give the type with their value.
@@ -131,7 +113,9 @@ fn obey(
     r: Rest,
     byte: u8,
 ) -> Rest
-    ensures { λ e. ⌜ ((map : List ℕ) → dockWith map (now (closed .exit)) (now (counts .exit)) (now (held .exit)) (now (types .exit)) e ≡ obeyed byte (dockWith map (now (closed .entry)) (now (counts .entry)) (now (held .entry)) (now (types .entry)) r)) ⌝ }
+    ensures { λ e. ⌜ ArraysAfter (obeyed byte)
+        (now (closed .entry)) (now (counts .entry)) (now (held .entry)) (now (types .entry)) r
+        (now (closed .exit)) (now (counts .exit)) (now (held .exit)) (now (types .exit)) e ⌝ }
 {
     match byte {
         0xf0 => ready_for_set(r),
@@ -154,7 +138,9 @@ pub fn command(
     r: Rest,
     byte: u8,
 ) -> Rest
-    ensures { λ e. ⌜ ((map : List ℕ) → dockWith map (now (closed .exit)) (now (counts .exit)) (now (held .exit)) (now (types .exit)) e ≡ commanded byte (dockWith map (now (closed .entry)) (now (counts .entry)) (now (held .entry)) (now (types .entry)) r)) ⌝ }
+    ensures { λ e. ⌜ ArraysAfter (commanded byte)
+        (now (closed .entry)) (now (counts .entry)) (now (held .entry)) (now (types .entry)) r
+        (now (closed .exit)) (now (counts .exit)) (now (held .exit)) (now (types .exit)) e ⌝ }
 {
     let mut e = obey(closed, counts, held, types, r, byte);
     e.replies = reply_to(byte);

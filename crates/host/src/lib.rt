@@ -1,9 +1,7 @@
 // What the host's bytes do (docs/RULES.md, section 11). In place: the arrays are lent, and only the rest of the record is passed.
 use record::Rest;
-ghost use mathlib.Core.Path.{_≡_};
-ghost use mathlib.Core.List.{List, [], _∷_};
-ghost use Prim.Native.Nat.{ℕ};
-ghost use Rattle.record.specs.Apart.{dockWith};
+ghost use mathlib.Core.List.{[], _∷_};
+ghost use Rattle.record.specs.Apart.{RestAfter, ArraysAfter};
 ghost use Rattle.host.specs.Commands.{replying, tookByte};
 
 mod answers; // answers.rt: the bytes that answer a command
@@ -12,7 +10,7 @@ mod values; // values.rt: the values that commands wait for
 
 // One reply instead of those before.
 pub fn reply(r: Rest, byte: u8) -> Rest
-    ensures { λ e. ⌜ ((map closed counts held types : List ℕ) → dockWith map closed counts held types e ≡ replying (byte ∷ []) (dockWith map closed counts held types r)) ⌝ }
+    ensures { λ e. ⌜ RestAfter (replying (byte ∷ [])) r e ⌝ }
 {
     let mut e = r;
     e.replies = queue::replies::one(byte);
@@ -28,13 +26,15 @@ pub fn take(
     r: Rest,
     byte: u8,
 ) -> Rest
-    ensures { λ e. ⌜ ((map : List ℕ) → dockWith map (now (closed .exit)) (now (counts .exit)) (now (held .exit)) (now (types .exit)) e ≡ tookByte byte (dockWith map (now (closed .entry)) (now (counts .entry)) (now (held .entry)) (now (types .entry)) r)) ⌝ }
+    ensures { λ e. ⌜ ArraysAfter (tookByte byte)
+        (now (closed .entry)) (now (counts .entry)) (now (held .entry)) (now (types .entry)) r
+        (now (closed .exit)) (now (counts .exit)) (now (held .exit)) (now (types .exit)) e ⌝ }
 {
     if byte == 0xfe {
         return reply(r, r.given);
     }
     if byte < 0xed {
-        return values::give(types, r, byte);
+        return values::take_value(types, r, byte);
     }
     commands::command(closed, counts, held, types, r, byte)
 }

@@ -3,10 +3,8 @@ use crate::reply;
 use record::Rest;
 ghost use mathlib.Core.Path.{_≡_};
 ghost use mathlib.Core.Bool.{true};
-ghost use mathlib.Core.List.{List};
-ghost use Prim.Native.Nat.{ℕ};
-ghost use Rattle.record.specs.Apart.{dockWith};
-ghost use Rattle.host.specs.Commands.{rightValue, valued, given};
+ghost use Rattle.record.specs.Apart.{TypesAfter};
+ghost use Rattle.host.specs.Commands.{rightValue, valued, tookValue};
 
 // A value that a command takes: indicators, a set, a rate, or the set 3 code of a key. No other byte takes one.
 fn is_right(command: u8, value: u8) -> bool
@@ -27,7 +25,7 @@ fn is_right(command: u8, value: u8) -> bool
 // What such a value does. The types are lent.
 fn apply(types: &mut [u8; 105], r: Rest, command: u8, value: u8) -> Rest
     requires { ⌜ rightValue command value ≡ true ⌝ }
-    ensures { λ e. ⌜ ((map closed counts held : List ℕ) → dockWith map closed counts held (now (types .exit)) e ≡ valued command value (dockWith map closed counts held (now (types .entry)) r)) ⌝ }
+    ensures { λ e. ⌜ TypesAfter (valued command value) (now (types .entry)) r (now (types .exit)) e ⌝ }
 {
     let mut m = r.mode;
     let mut e = r;
@@ -52,8 +50,8 @@ fn apply(types: &mut [u8; 105], r: Rest, command: u8, value: u8) -> Rest
 }
 
 // A byte below ED: the value of the command that waits, if it is right for it.
-pub fn give(types: &mut [u8; 105], r: Rest, byte: u8) -> Rest
-    ensures { λ e. ⌜ ((map closed counts held : List ℕ) → dockWith map closed counts held (now (types .exit)) e ≡ given byte (dockWith map closed counts held (now (types .entry)) r)) ⌝ }
+pub fn take_value(types: &mut [u8; 105], r: Rest, byte: u8) -> Rest
+    ensures { λ e. ⌜ TypesAfter (tookValue byte) (now (types .entry)) r (now (types .exit)) e ⌝ }
 {
     let command = r.waiting;
     if !is_right(command, byte) {

@@ -156,9 +156,9 @@ rowCode set r = pick (eqb set 1) (r .0) (pick (eqb set 2) (r .1) (r .2))
 unfoldable pub codeIn : ℕ → ℕ → ℕ
 codeIn set key = rowCode set (rowOf key)
 
--- The type that a key has in set 3 until the host gives it another.
-unfoldable pub defaultType : ℕ → ℕ
-defaultType key = rowOf key .3
+-- The type of a row: what its key has in set 3 until the host gives it another.
+abbrev pub rowType : Row → ℕ
+rowType r = r .3
 
 -- What does not fit the rows. In sets 1 and 2 PRINT has another code while an ALT is held.
 abbrev pub altPrint : ℕ → ℕ

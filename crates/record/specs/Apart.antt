@@ -1,5 +1,6 @@
 -- The record taken apart, and put together. Assumes nothing.
 use Prim.Native.Nat.{ℕ}
+use mathlib.Core.Path.{_≡_}
 use mathlib.Core.List.{List}
 use Rattle.contacts.specs.Counts.{contacts}
 use Rattle.record.specs.declared.Outgoing.{Outgoing}
@@ -45,3 +46,17 @@ withOutgoing r o =
       handover = r .handover;
       given = r .given;
     }
+
+-- What a function promises that does f to the record in place: r is the rest that it is passed, e the one that it gives back. The first
+-- is lent no array, the second the types, the third all arrays but the map; those that are not lent may be any.
+abbrev pub RestAfter : (Dock → Dock) → Rest → Rest → Type 0
+RestAfter f r e =
+    (map closed counts held types : List ℕ) → dockWith map closed counts held types e ≡ f (dockWith map closed counts held types r)
+
+abbrev pub TypesAfter : (Dock → Dock) → List ℕ → Rest → List ℕ → Rest → Type 0
+TypesAfter f types r newTypes e =
+    (map closed counts held : List ℕ) → dockWith map closed counts held newTypes e ≡ f (dockWith map closed counts held types r)
+
+abbrev pub ArraysAfter : (Dock → Dock) → List ℕ → List ℕ → List ℕ → List ℕ → Rest → List ℕ → List ℕ → List ℕ → List ℕ → Rest → Type 0
+ArraysAfter f closed counts held types r newClosed newCounts newHeld newTypes e =
+    (map : List ℕ) → dockWith map newClosed newCounts newHeld newTypes e ≡ f (dockWith map closed counts held types r)

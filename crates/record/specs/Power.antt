@@ -4,8 +4,7 @@ use mathlib.Core.Bool.{true, false}
 use mathlib.Core.List.{List, [], _∷_, _++_, map}
 use lib.ListN.{replicate}
 use Rattle.contacts.specs.Counts.{unseen}
-use Rattle.keys.specs.declared.Row.{Row}
-use Rattle.keys.specs.Keys.{rows, noRow}
+use Rattle.keys.specs.Keys.{rows, noRow, rowType}
 use Rattle.queue.specs.declared.replies.Replies.{Replies}
 use Rattle.queue.specs.Queues.{queueOf}
 use Rattle.queue.specs.Replies.{repliesOf}
@@ -22,7 +21,11 @@ plainMap = countUp 1 104 ++ replicate 40 0
 
 -- The default types, by key number.
 unfoldable pub defaultTypes : List ℕ
-defaultTypes = map (λ (r : Row). r .3) (noRow ∷ rows)
+defaultTypes = map rowType (noRow ∷ rows)
+
+-- The default rate: 120 scans, then every 22 (docs/RULES.md, section 6).
+abbrev pub defaultRate : ℕ
+defaultRate = 0x2b
 
 -- A dock that has just woken up: set 2, default rate and types, scanning on, indicators off, nothing held, no byte given yet.
 unfoldable pub freshWith : List ℕ → Replies → Dock
@@ -32,7 +35,7 @@ freshWith map replies =
       contacts = unseen;
       keys = record { held = replicate 144 0; queue = queueOf []; repeating = 0; clock = 0 };
       types = defaultTypes;
-      mode = record { set = 2; rate = 0x2b; indicators = 0 };
+      mode = record { set = 2; rate = defaultRate; indicators = 0 };
       replies = replies;
       scanning = true;
       waiting = 0;

@@ -1,7 +1,6 @@
 -- The ranges of the record (docs/RECORD.md). Assumes nothing.
 use Prim.Native.Nat.{ℕ}
 use mathlib.Core.Bool.{Bool}
-use mathlib.Core.List.{List, [], _∷_}
 use lib.Dec.{leb, eqb}
 use Rattle.basics.specs.Choice.{both, either, between}
 use Rattle.basics.specs.Lists.{allUpTo}
@@ -28,7 +27,7 @@ takesValue byte =
 abbrev pub goodWaiting : ℕ → Bool
 goodWaiting byte = either (eqb byte 0) (takesValue byte)
 
--- Every part is in its range; contacts and types may be anything.
+-- Every part is in its range; contacts, flags of held keys, types and the byte given may be anything.
 unfoldable pub inRange : Dock → Bool
 inRange d =
     both (allUpTo 104 (d .map))

@@ -8,7 +8,7 @@ ghost use mathlib.Core.Path.{_≡_};
 ghost use Rattle.record.specs.Apart.{outgoingOf, restOf, keysWith, dockWith};
 
 // The keys without the array.
-pub fn outgoing_of(k: Keys) -> Outgoing
+fn outgoing_of(k: Keys) -> Outgoing
     ensures { λ r. ⌜ r ≡ outgoingOf k ⌝ }
 {
     let queue = k.queue;
@@ -38,7 +38,7 @@ pub fn rest_of(d: Dock) -> Rest
 }
 
 // The keys put together.
-pub fn keys_with(held: [u8; 144], o: Outgoing) -> Keys
+fn keys_with(held: [u8; 144], o: Outgoing) -> Keys
     ensures { λ r. ⌜ r ≡ keysWith held o ⌝ }
 {
     let queue = o.queue;

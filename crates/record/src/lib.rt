@@ -3,9 +3,9 @@ use contacts::Contacts;
 use queue::Queue;
 use queue::replies::Replies;
 
-pub mod power; // power.rt: the record at power-on
 pub mod range; // range.rt: is every part in its range
 pub mod apart; // apart.rt: the record taken apart, so that its arrays can be lent
+pub mod power; // power.rt: the record at power-on
 
 // What the host has chosen.
 pub struct Mode {

@@ -1,13 +1,20 @@
 // The record at power-on.
 use crate::Dock;
-use crate::Keys;
 use crate::Mode;
-use contacts::Contacts;
+use crate::Outgoing;
+use crate::Rest;
+use crate::apart::dock_with;
 use queue::replies::Replies;
 ghost use mathlib.Core.Path.{_≡_};
+ghost use mathlib.Core.List.{List};
+ghost use Prim.Native.Nat.{ℕ};
+ghost use Rattle.record.specs.Apart.{restOf};
 ghost use Rattle.record.specs.Power.{defaultTypes, freshWith, powerOn};
 
-// The plain panel: position p holds key p + 1.
+// The default rate: 120 scans, then every 22 (docs/RULES.md, section 6).
+pub const DEFAULT_RATE: u8 = 0x2b;
+
+// The plain panel: position p holds key p + 1. Sixteen to a line: place 0x1d is line 1, column d.
 const PLAIN: [u8; 144] = *b"\x01\x02\x03\x04\x05\x06\x07\x08\x09\x0a\x0b\x0c\x0d\x0e\x0f\x10\
     \x11\x12\x13\x14\x15\x16\x17\x18\x19\x1a\x1b\x1c\x1d\x1e\x1f\x20\
     \x21\x22\x23\x24\x25\x26\x27\x28\x29\x2a\x2b\x2c\x2d\x2e\x2f\x30\
@@ -18,7 +25,7 @@ const PLAIN: [u8; 144] = *b"\x01\x02\x03\x04\x05\x06\x07\x08\x09\x0a\x0b\x0c\x0d
     \x00\x00\x00\x00\x00\x00\x00\x00\x00\x00\x00\x00\x00\x00\x00\x00\
     \x00\x00\x00\x00\x00\x00\x00\x00\x00\x00\x00\x00\x00\x00\x00\x00";
 
-// The types that the key table has, by key number.
+// The types that the key table has, by key number, sixteen to a line again.
 const DEFAULTS: [u8; 105] = *b"\x00\x00\x00\x00\x00\x00\x00\x00\x00\x00\x00\x00\x00\x00\x00\x00\
     \x00\x00\x00\x00\x00\x00\x00\x00\x00\x00\x00\x00\x00\x01\x00\x00\
     \x00\x00\x00\x00\x00\x00\x00\x00\x00\x00\x01\x00\x00\x00\x00\x00\
@@ -34,26 +41,19 @@ pub fn default_types() -> [u8; 105]
     DEFAULTS
 }
 
-// A dock that has just woken up, with this map and these replies waiting.
-pub fn fresh(map: [u8; 144], replies: Replies) -> Dock
-    ensures { λ r. ⌜ r ≡ freshWith map replies ⌝ }
+// All but the arrays of a dock that has just woken up, with these replies waiting.
+pub fn fresh_rest(replies: Replies) -> Rest
+    ensures { λ r. ⌜ ((map : List ℕ) → r ≡ restOf (freshWith map replies)) ⌝ }
 {
-    Dock {
-        map,
-        contacts: Contacts {
-            closed: [0; 18],
-            counts: [0; 144],
-        },
-        keys: Keys {
-            held: [0; 144],
+    Rest {
+        outgoing: Outgoing {
             queue: queue::empty(),
             repeating: 0,
             clock: 0,
         },
-        types: default_types(),
         mode: Mode {
             set: 2,
-            rate: 0x2b,
+            rate: DEFAULT_RATE,
             indicators: 0,
         },
         replies,
@@ -64,10 +64,12 @@ pub fn fresh(map: [u8; 144], replies: Replies) -> Dock
     }
 }
 
-// Power-on: the plain map, and AA waits as a reply.
+// Power-on: the plain map, nothing seen or held, and AA waits as a reply.
 pub fn power_on() -> Dock
     ensures { λ r. ⌜ r ≡ powerOn ⌝ }
 {
     let map = PLAIN;
-    fresh(map, queue::replies::one(0xaa))
+    let types = default_types();
+    let rest = fresh_rest(queue::replies::one(0xaa));
+    dock_with(map, [0; 18], [0; 144], [0; 144], types, rest)
 }

@@ -18,7 +18,7 @@ use Rattle.keying.specs.Moves.{pressed, releasedWith, released, moved, turned, 
 use Rattle.keying.specs.Repeat.{delayOf, intervalOf, repeated}
 use Rattle.keying.specs.Handover.{handedFrom}
 use Rattle.frames.specs.Frames.{parity, frameOf as packedOf, whole, unpackedOf}
-use Rattle.host.specs.Commands.{obeyed, replyTo, commanded, rightValue, valued, given, tookByte}
+use Rattle.host.specs.Commands.{obeyed, replyTo, commanded, rightValue, valued, tookValue, tookByte}
 use Rattle.maps.specs.Maps.{isIn, hasDouble}
 use Rattle.dock.specs.Closing.{closing}
 use Rattle.dock.specs.Scan.{listening, isCounted, counting, changed, repeating, heardScan, scanned, scanOf}
@@ -53,7 +53,7 @@ unfolding
     modifiersOf sends queuedOf
     pressed releasedWith released moved turned turnsTo delayOf intervalOf repeated handedFrom
     parity packedOf whole unpackedOf
-    obeyed replyTo commanded rightValue valued given tookByte
+    obeyed replyTo commanded rightValue valued tookValue tookByte
     isIn hasDouble
     closing listening isCounted counting changed repeating heardScan scanned scanOf opened remapped swapped swapOf tookFrame
     frameOf remembering replyTaken keyByteTaken read readOf

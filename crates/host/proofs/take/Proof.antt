@@ -15,14 +15,14 @@ returns c = λ map.
     c .reply .ensures map (a .closed .now) (a .counts .now) (a .held .now) (a .types .now)
     ∙ took-resend (a .byte) (dockWith map (a .closed .now) (a .counts .now) (a .held .now) (a .types .now) (a .r)) (c .before .if1 .taken)
 
-give-requires : tie.Need-give-requires
-give-requires c κs = search needs
+take-value-requires : tie.Need-take-value-requires
+take-value-requires c κs = search needs
 
 returns-2 : tie.Need-returns-2
 returns-2 c = λ map.
     let small = c .before .before in
     let a = small .before .before .args in
-    c .give .ensures map (a .closed .now) (a .counts .now) (a .held .now)
+    c .take-value .ensures map (a .closed .now) (a .counts .now) (a .held .now)
     ∙ took-value (a .byte) (dockWith map (a .closed .now) (a .counts .now) (a .held .now) (a .types .now) (a .r)) (small .if2 .taken)
 
 command-requires : tie.Need-command-requires
@@ -36,4 +36,4 @@ returns-3 c = λ map.
 
 pub take-spec : {M : Type 1} → statement M
 take-spec =
-    tie.close (tie.spec reply-requires returns give-requires returns-2 command-requires returns-3)
+    tie.close (tie.spec reply-requires returns take-value-requires returns-2 command-requires returns-3)

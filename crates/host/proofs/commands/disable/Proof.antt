@@ -1,5 +1,5 @@
 -- `host::commands::disable` meets its contract: it sets the defaults, and one field more. Assumes nothing.
-use mathlib.Core.Path.{_≡_, ap}
+use mathlib.Core.Path.{ap}
 use mathlib.Core.Bool.{false}
 use borrow.Author.Needs.{needs}
 use Rattle.record.specs.declared.Dock.{Dock}

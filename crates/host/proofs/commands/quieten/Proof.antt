@@ -1,4 +1,4 @@
--- `host::commands::quieten` meets its contract: the queue is the empty one. Assumes nothing.
+-- `host::commands::quieten` meets its contract: the queue is the empty one, and no key repeats. Assumes nothing.
 use borrow.Author.Needs.{needs}
 use Rattle.host.proofs.commands.quieten.Statement.{statement}
 use Rattle.host.proofs.commands.quieten.Tie as tie

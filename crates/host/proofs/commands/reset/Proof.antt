@@ -1,4 +1,4 @@
--- `host::commands::reset` meets its contract: it is the fresh record of the definition. Assumes nothing.
+-- `host::commands::reset` meets its contract: its arrays and the rest are those of the definition. Assumes nothing.
 use borrow.Author.Needs.{needs}
 use Rattle.record.specs.Power.{freshWith}
 use Rattle.host.proofs.commands.reset.Statement.{statement}
@@ -7,12 +7,12 @@ use Rattle.host.proofs.commands.reset.Tie as tie
 default-types-requires : tie.Need-default-types-requires
 default-types-requires c κs = search needs
 
-empty-requires : tie.Need-empty-requires
-empty-requires c κs = search needs
+fresh-rest-requires : tie.Need-fresh-rest-requires
+fresh-rest-requires c κs = search needs
 
 returns : tie.Need-returns
 unfolding freshWith
-returns c = λ map. rw (c .empty .ensures, c .before .before .default-types .ensures)
+returns c = λ map. rw (c .fresh-rest .ensures map, c .before .before .default-types .ensures)
 
 pub reset-spec : {M : Type 1} → statement M
-reset-spec = tie.close (tie.spec default-types-requires empty-requires returns)
+reset-spec = tie.close (tie.spec default-types-requires fresh-rest-requires returns)

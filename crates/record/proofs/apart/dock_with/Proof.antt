@@ -1,4 +1,4 @@
--- `record::apart::dock_with` meets its contract. Assumes nothing.
+-- `record::apart::dock_with` meets its contract: part by part the record is the definition's. Assumes nothing.
 use mathlib.Core.Path.{ap}
 use borrow.Author.Needs.{needs}
 use Rattle.record.specs.declared.Keys.{Keys}

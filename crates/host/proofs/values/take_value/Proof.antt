@@ -1,11 +1,11 @@
--- `host::values::give` meets its contract: a right value is done and answered FA, and any other byte is answered FE. Assumes nothing.
+-- `host::values::take_value` meets its contract: a right value is done and answered FA, and any other byte is answered FE. Assumes nothing.
 use mathlib.Core.Path.{sym, _∙_}
 use borrow.Author.Tests.{not-true, not-false}
 use borrow.Author.Needs.{needs}
 use Rattle.record.specs.Apart.{dockWith}
-use Rattle.host.proofs.Rows.{given-wrong, given-right}
-use Rattle.host.proofs.values.give.Statement.{statement}
-use Rattle.host.proofs.values.give.Tie as tie
+use Rattle.host.proofs.Rows.{value-wrong, value-right}
+use Rattle.host.proofs.values.take_value.Statement.{statement}
+use Rattle.host.proofs.values.take_value.Tie as tie
 
 is-right-requires : tie.Need-is-right-requires
 is-right-requires c κs = search needs
@@ -17,7 +17,7 @@ returns : tie.Need-returns
 returns c = λ map closed counts held.
     let a = c .before .before .before .args in
     c .reply .ensures map closed counts held (a .types .now)
-    ∙ given-wrong (a .byte) (dockWith map closed counts held (a .types .now) (a .r)) _ (c .before .before .is-right .ensures) (not-true _ (c .before .if1 .taken))
+    ∙ value-wrong (a .byte) (dockWith map closed counts held (a .types .now) (a .r)) _ (c .before .before .is-right .ensures) (not-true _ (c .before .if1 .taken))
 
 apply-requires : tie.Need-apply-requires
 apply-requires c κs = sym (c .before .before .is-right .ensures) ∙ not-false _ (c .before .if1 .left)
@@ -30,9 +30,9 @@ returns-2 c = λ map closed counts held.
     let l = c .before .before .before in
     let a = l .before .before .args in
     c .reply2 .ensures map closed counts held _
-    ∙ given-right (a .byte) (dockWith map closed counts held (a .types .now) (a .r)) _ (l .before .is-right .ensures) (not-false _ (l .if1 .left)) _ (c .before .apply .ensures map closed counts held)
+    ∙ value-right (a .byte) (dockWith map closed counts held (a .types .now) (a .r)) _ (l .before .is-right .ensures) (not-false _ (l .if1 .left)) _ (c .before .apply .ensures map closed counts held)
 
-pub give-spec : {M : Type 1} → statement M
-give-spec =
+pub take-value-spec : {M : Type 1} → statement M
+take-value-spec =
     tie.close
     (tie.spec is-right-requires reply-requires returns apply-requires reply-requires-2 returns-2)
