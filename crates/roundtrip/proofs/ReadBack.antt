@@ -6,7 +6,7 @@ use mathlib.Core.List.{List, [], _∷_, map}
 use Prim.Native.Nat.{ℕ, zero, suc, _+_, _≤_}
 use native.Mathlib.Nat.{not-suc-le-zero}
 use native.Mathlib.Omega.{arith}
-use lib.ListN.{length, getD}
+use lib.ListN.{getD}
 use Rattle.basics.specs.Lists.{mapFrom}
 use Rattle.basics.proofs.Tables.{at-each-place}
 use Rattle.keys.specs.Keys.{rows, rowOf, noRow, codeIn}
