@@ -18,10 +18,10 @@ use Rattle.record.proofs.PowerOn.{power-on-in-range}
 use Rattle.runs.specs.Calls.{Call, Scan, Swap, Frame, Read, isClearingCall}
 use Rattle.runs.specs.Worlds.{World, woken, next, afterCalls}
 use Rattle.runs.specs.Runs.{overrunsIn, undisturbed}
-use Rattle.basics.proofs.Cases.{neither-first}
+use Rattle.basics.proofs.Cases.{neither-first, never}
 use Rattle.telling.proofs.Held.{none-agree, contact-open}
 use Rattle.basics.proofs.Zeros.{zeros-at}
-use Rattle.agreement.proofs.Ready.{Settled, shut-settled, never}
+use Rattle.agreement.proofs.Ready.{Settled, shut-settled}
 use Rattle.agreement.proofs.Following.{Follows}
 use Rattle.agreement.proofs.Scanned.{scan-settled, scan-follows}
 use Rattle.agreement.proofs.Swapped.{swap-settled, swap-follows}

@@ -21,8 +21,7 @@ use Rattle.record.specs.Power.{freshWith}
 use Rattle.record.specs.Range.{inRange}
 use Rattle.runs.specs.Calls.{Frame, isAccepted, clears, carries, isClearing}
 use Rattle.runs.specs.Bytes.{closingBytes, frameBytes, queuedBy}
-use Rattle.basics.proofs.Cases.{by-cases}
-use Rattle.agreement.proofs.Ready.{never}
+use Rattle.basics.proofs.Cases.{by-cases, never}
 use Rattle.agreement.proofs.Queuing.{bytesOf, closing-bytes}
 
 -- A number from the low end of a range on that is not in it is past it.

@@ -8,7 +8,7 @@ use native.Mathlib.Omega.{arith}
 use borrow.Author.Tests.{eqb-true, eqb-false, eq-eqb}
 use lib.Dec.{eqb}
 use lib.ListN.{length, replicate, drop, length-drop}
-use Rattle.basics.proofs.Cases.{by-cases, picked}
+use Rattle.basics.proofs.Cases.{by-cases, picked, never}
 use Rattle.basics.proofs.Flags.{left-of-both, right-of-both}
 use Rattle.dock.specs.declared.Taken.{Taken}
 use Rattle.dock.specs.Closing.{withHanded, closing}
@@ -24,7 +24,7 @@ use Rattle.record.specs.Parts.{withKeys, withReplies, withQueue}
 use Rattle.runs.specs.Calls.{Call, Read}
 use Rattle.runs.specs.Worlds.{World, woken, next, afterCalls}
 use Rattle.telling.proofs.Lessening.{toRead, held-most, handed-less}
-use Rattle.agreement.proofs.Ready.{Settled, never}
+use Rattle.agreement.proofs.Ready.{Settled}
 use Rattle.agreement.proofs.Following.{none-wait}
 use Rattle.agreement.proofs.Taken.{some-wait}
 use Rattle.agreement.proofs.AnyCalls.{any-sound}

@@ -26,10 +26,10 @@ use Rattle.runs.specs.Calls.{isAccepted, clears, carries, isClearing}
 use Rattle.runs.specs.Worlds.{isReset, scansAfterFrame}
 use Rattle.telling.proofs.Held.{none-agree, contact-open}
 use Rattle.basics.proofs.Zeros.{zeros-at}
-use Rattle.basics.proofs.Cases.{by-cases, picked, neither-first, neither-second}
+use Rattle.basics.proofs.Cases.{by-cases, picked, neither-first, neither-second, never}
 use Rattle.terminal.specs.Terminals.{Terminal}
 use Rattle.agreement.proofs.Following.{Follows, closing-follows}
-use Rattle.agreement.proofs.Ready.{IsReady, Settled, never, same-flags, closing-settled}
+use Rattle.agreement.proofs.Ready.{IsReady, Settled, same-flags, closing-settled}
 
 module _ (scans : List (List ℕ)) where
   -- No key byte waits any more; no key repeats.

@@ -19,7 +19,7 @@ use Rattle.queue.specs.Queues.{waiting}
 use Rattle.record.specs.declared.Keys.{Keys}
 use Rattle.record.specs.declared.Dock.{Dock}
 use Rattle.telling.specs.Agreeing.{Agrees, Once, Outside, Repeats}
-use Rattle.basics.proofs.Cases.{by-cases}
+use Rattle.basics.proofs.Cases.{by-cases, never}
 use Rattle.telling.proofs.Held.{none-agree, contact-open}
 use Rattle.telling.proofs.Handing.{handed-outside, handed-all, handed-waits}
 use Rattle.telling.proofs.Repeating.{handed-repeat}
@@ -60,10 +60,6 @@ same-flags map contacts k handover scans r l same bytes repeats =
       agree = λ shut. rw same (r .agree shut);
       anew = r .anew;
     }
-
--- Nothing is both.
-pub never : {A : Type 0} (b : Bool) → b ≡ true → b ≡ false → A
-never b t f = let no : _≡_ {A = ℕ} 0 1 = cc in absurd (omega arith)
 
 pub at-once : (map : List ℕ) → length map ≡ 144 → hasDouble map ≡ false → Once map
 at-once map long single p q hp hq same some = one-place map single p q (omega arith) (omega arith) same some

@@ -9,7 +9,7 @@ use lib.Dec.{eqb, ltb}
 use lib.ListN.{length}
 use Rattle.basics.specs.Choice.{pick}
 use Rattle.basics.specs.Lists.{allUpTo}
-use Rattle.basics.proofs.Cases.{picked, two-by-cases}
+use Rattle.basics.proofs.Cases.{picked, two-by-cases, never}
 use Rattle.dock.specs.declared.Answered.{Answered}
 use Rattle.dock.specs.declared.Given.the-variants.{Refused}
 use Rattle.dock.specs.declared.Taken.{Taken}
@@ -25,7 +25,6 @@ use Rattle.maps.specs.Maps.{hasDouble}
 use Rattle.record.specs.declared.Dock.{Dock}
 use Rattle.record.specs.Range.{inRange}
 use Rattle.runs.specs.Calls.{isAccepted}
-use Rattle.agreement.proofs.Ready.{never}
 
 module _ (d : Dock) where
   -- If it is a refusal, the record is the one that came.

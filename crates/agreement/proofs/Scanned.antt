@@ -8,6 +8,7 @@ use lib.Dec.{eqb}
 use lib.ListN.{length}
 use Rattle.basics.specs.Choice.{pick, both}
 use Rattle.basics.proofs.Flags.{right-of-both}
+use Rattle.basics.proofs.Cases.{never}
 use Rattle.contacts.specs.declared.Contacts.{Contacts}
 use Rattle.contacts.specs.Phantom.{isPhantom}
 use Rattle.contacts.specs.Counts.{unseen, countedOf}
@@ -31,7 +32,7 @@ use Rattle.telling.proofs.Repeating.{turns-repeat, turns-outside, repeated-repe
 use Rattle.telling.proofs.Told.{ticked-told, turns-told, repeated-told}
 use Rattle.terminal.specs.Terminals.{Terminal}
 use Rattle.agreement.proofs.Following.{Follows, none-wait, repeats-within, closing-follows}
-use Rattle.agreement.proofs.Ready.{Ready, IsReady, Settled, never, same-flags, at-once, shut-settled, closing-settled}
+use Rattle.agreement.proofs.Ready.{Ready, IsReady, Settled, same-flags, at-once, shut-settled, closing-settled}
 
 -- Scans are listened to only while no handover is open.
 pub listening-shut : (d : Dock) → listening d ≡ true → d .handover ≡ false

@@ -21,10 +21,10 @@ use Rattle.record.specs.Parts.{withMap}
 use Rattle.record.specs.Range.{inRange}
 use Rattle.runs.specs.Calls.{isAccepted}
 use Rattle.runs.specs.Worlds.{scansAfterSwap}
-use Rattle.basics.proofs.Cases.{by-cases, picked}
+use Rattle.basics.proofs.Cases.{by-cases, picked, never}
 use Rattle.terminal.specs.Terminals.{Terminal}
 use Rattle.agreement.proofs.Following.{Follows, closing-follows}
-use Rattle.agreement.proofs.Ready.{IsReady, Settled, never, closing-settled}
+use Rattle.agreement.proofs.Ready.{IsReady, Settled, closing-settled}
 
 module _ (d : Dock) (scans : List (List ℕ)) (s : Settled d scans) (map : List ℕ) where
   -- The map is replaced, and if no handover is open, one is opened and the contact history dropped.

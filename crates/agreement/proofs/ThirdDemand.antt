@@ -16,6 +16,7 @@ use Rattle.basics.specs.Choice.{both, between}
 use Rattle.basics.specs.Lists.{allUpTo}
 use Rattle.basics.proofs.Flags.{left-of-both, right-of-both}
 use Rattle.basics.proofs.Zeros.{only-zeros}
+use Rattle.basics.proofs.Cases.{never}
 use Rattle.contacts.specs.declared.Contacts.{Contacts}
 use Rattle.contacts.specs.Scans.{contact}
 use Rattle.contacts.proofs.Pointwise.{contact-small}
@@ -31,7 +32,7 @@ use Rattle.runs.specs.Runs.{mayBegin, beginning, undisturbed}
 use Rattle.telling.specs.Agreeing.{Agrees}
 use Rattle.telling.proofs.Told.{told-empty, empty-told}
 use Rattle.terminal.specs.Terminals.{Terminal, terminal, begun, isDown}
-use Rattle.agreement.proofs.Ready.{IsReady, never}
+use Rattle.agreement.proofs.Ready.{IsReady}
 use Rattle.agreement.proofs.Following.{Follows}
 use Rattle.agreement.proofs.AnyCalls.{Sound, woken-sound, any-sound, any-follows}
 use Rattle.agreement.proofs.Ending.{quiet-empty, quiet-shut}

@@ -1,6 +1,6 @@
 -- A fact of what a test picks, from a fact of each where it is picked. Assumes nothing.
-use mathlib.Core.Path.{_≡_, refl}
-use mathlib.Core.Bool.{Bool, true, false}
+use mathlib.Core.Path.{_≡_, refl, sym, _∙_}
+use mathlib.Core.Bool.{Bool, true, false, false≢true}
 use Rattle.basics.specs.Choice.{pick, either}
 
 pub by-cases : {A : Type 0} (P : A → Type 0) (b : Bool) (x y : A) → (b ≡ true → P x) → (b ≡ false → P y) → P (pick b x y)
@@ -16,6 +16,10 @@ pub two-by-cases : {A B : Type 0} (P : A → B → Type 0) (b : Bool) (x y : A) 
     → (b ≡ true → P x v) → (b ≡ false → P y w) → P (pick b x y) (pick b v w)
 two-by-cases P true x y v w f g = f refl
 two-by-cases P false x y v w f g = g refl
+
+-- No test both holds and does not.
+pub never : {A : Type 0} (b : Bool) → b ≡ true → b ≡ false → A
+never b t f = absurd (false≢true (sym f ∙ t))
 
 -- Of two, where the second holds one does, and where it does not, only the first can.
 pub either-true : (b : Bool) → either b true ≡ true

@@ -2,7 +2,7 @@
 use mathlib.Core.Path.{_≡_, refl, _∙_}
 use mathlib.Core.Bool.{Bool, true, false}
 use mathlib.Core.List.{List, [], _∷_}
-use Prim.Native.Nat.{ℕ, zero, suc, _+_, _≤_, _<_, suc-le-suc}
+use Prim.Native.Nat.{ℕ, zero, suc, _+_, _≤_, _<_}
 use native.Mathlib.Numerals.{add-one}
 use native.Mathlib.Omega.{arith}
 use borrow.Author.Tests.{leb-true, le-leb, lt-leb}
@@ -18,11 +18,6 @@ unfolding allUpTo
 up-to-at limit [] i e = omega arith
 up-to-at limit (x ∷ xs) zero e = leb-true x limit (left-of-both (leb x limit) (allUpTo limit xs) e)
 up-to-at limit (x ∷ xs) (suc i) e = up-to-at limit xs i (right-of-both (leb x limit) (allUpTo limit xs) e)
-
-pub up-to-all : (limit : ℕ) (l : List ℕ) → ((i : ℕ) → i < length l → getD l i 0 ≤ limit) → allUpTo limit l ≡ true
-unfolding allUpTo
-up-to-all limit [] h = refl
-up-to-all limit (x ∷ xs) h = rw (le-leb x limit (h 0 (omega arith))) (up-to-all limit xs (λ i b. h (suc i) (suc-le-suc b)))
 
 module _ (limit : ℕ) (l : List ℕ) (p : ℕ) (flag : Bool) (i : allUpTo limit l ≡ both flag (allUpTo limit (drop p l))) where
   module _ (h : p < length l) (r : Bool) where

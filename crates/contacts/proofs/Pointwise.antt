@@ -8,13 +8,11 @@ use borrow.Author.Tests.{ltb-true}
 use lib.Dec.{eqb, ltb}
 use lib.ListN.{length, getD}
 use Rattle.basics.specs.Choice.{pick}
-use Rattle.basics.specs.Lists.{allUpTo}
-use Rattle.basics.proofs.Limits.{up-to-all}
 use Rattle.basics.proofs.Maps.{length-mapFrom, getD-mapFrom}
 use Rattle.contacts.specs.declared.Contacts.{Contacts}
 use Rattle.contacts.specs.Scans.{contactIn, contact}
 use Rattle.contacts.specs.Counts.{nextCount, nextClosed, packed, countAt, closedAt, countedOf}
-use Rattle.contacts.proofs.Bytes.{packed-row, packed-up-to-255}
+use Rattle.contacts.proofs.Bytes.{packed-row}
 
 -- A contact is 0 or 1.
 pub contact-small : (scan : List ℕ) (position : ℕ) → contact scan position < 2
@@ -84,15 +82,3 @@ module _ (k : Contacts) (scan : List ℕ) where
   module _ (l : length (k .counts) ≡ 144) (position : ℕ) (h : position < 144) where
     pub counts-pointwise : getD (countedOf k scan .counts) position 0 ≡ countAt k scan position
     counts-pointwise = count-new position (omega arith)
-
-  -- Whatever the counts were, none is over 2 afterwards, and the columns are bytes.
-  pub counts-up-to-2 : allUpTo 2 (countedOf k scan .counts) ≡ true
-  counts-up-to-2 =
-      up-to-all 2 (countedOf k scan .counts)
-      (λ i h. rw (count-new i (rw counts-length at h)) (next-count-small (contact scan i) (contact (k .closed) i) (getD (k .counts) i 0)))
-
-  pub closed-up-to-255 : allUpTo 255 (countedOf k scan .closed) ≡ true
-  closed-up-to-255 =
-      up-to-all 255 (countedOf k scan .closed)
-      (λ i h. rw (column-new i (rw closed-length at h))
-      (packed-up-to-255 (λ row. closedAt k scan (8 * i + row)) (λ row. closed-at-small (8 * i + row))))

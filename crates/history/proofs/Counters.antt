@@ -20,23 +20,6 @@ unfolding countedAll
 counted-again k [] scan = refl
 counted-again k (first ∷ scans) scan = counted-again (countedOf k first) scans scan
 
--- As many contacts and counts as there were.
-closed-kept : (k : Contacts) (scans : List (List ℕ)) → length (countedAll k scans .closed) ≡ length (k .closed)
-unfolding countedAll
-closed-kept k [] = refl
-closed-kept k (scan ∷ scans) = closed-kept (countedOf k scan) scans ∙ closed-length k scan
-
-counts-kept : (k : Contacts) (scans : List (List ℕ)) → length (countedAll k scans .counts) ≡ length (k .counts)
-unfolding countedAll
-counts-kept k [] = refl
-counts-kept k (scan ∷ scans) = counts-kept (countedOf k scan) scans ∙ counts-length k scan
-
-pub counted-closed-length : (scans : List (List ℕ)) → length (countedAll unseen scans .closed) ≡ 18
-counted-closed-length scans = closed-kept unseen scans
-
-pub counted-counts-length : (scans : List (List ℕ)) → length (countedAll unseen scans .counts) ≡ 144
-counted-counts-length scans = counts-kept unseen scans
-
 -- From any contacts on: each ends as the scans in its count and those to come say.
 ends : (k : Contacts) (scans : List (List ℕ)) → length (k .closed) ≡ 18 → length (k .counts) ≡ 144
     → (position : ℕ) → position < 144 → getD (k .counts) position 0 ≤ 2

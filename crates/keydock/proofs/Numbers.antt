@@ -12,6 +12,7 @@ use mir.Syntax.{w32}
 use mir.Val.{toZ}
 use mir.ValLaws.{toZ-pos}
 use Rattle.basics.specs.Choice.{pick, both}
+use Rattle.basics.proofs.Cases.{never}
 use Rattle.encoder.specs.declared.Encoded.{Encoded}
 use Rattle.encoder.specs.declared.Encoded.the-variants.{Written, BadChoice, ShortOutput}
 use Rattle.encoder.specs.Encoder.{actionOf, allowed, asked, encodedOf}
@@ -36,11 +37,11 @@ module _ (set key event type modifiers lock : ℕ) (out : List ℕ) (r : Encoded
     where
       go : (a b : Bool) → pick a (pick b ShortOutput (Written (length (asked set key event type modifiers lock)))) BadChoice ≡ Written count
           → count ≤ 8
-      go true true w = let z : _≡_ {A = ℕ} 0 1 = cc in omega arith
+      go true true w = never true refl cc
       go true false w =
           let same : length (asked set key event type modifiers lock) ≡ count = cc in
           omega (arith, encode-short set key (actionOf event) type modifiers (eqb lock 1))
-      go false b w = let z : _≡_ {A = ℕ} 0 1 = cc in omega arith
+      go false b w = never true refl cc
 
   -- The number of whatever the encoder answered.
   pub encoded : (answer : Encoded) → r ≡ answer

@@ -24,7 +24,7 @@ use Rattle.keying.proofs.Kept.{handed-keeps}
 use Rattle.record.specs.declared.Mode.{Mode}
 use Rattle.record.specs.declared.Keys.{Keys}
 use Rattle.telling.specs.Agreeing.{Outside, heldTo}
-use Rattle.basics.proofs.Cases.{by-cases, neither-first, neither-second}
+use Rattle.basics.proofs.Cases.{by-cases, never, neither-first, neither-second}
 
 -- A flag that is taken down is down, also where there is no place for one,
 pub down-own : (held : List ℕ) (key : ℕ) → getD (set held key 0) key 0 ≡ 0
@@ -119,7 +119,7 @@ module _ (m : Mode) (types : List ℕ) where
   handed-finished (suc n) key k done j low high =
       step (λ (h : Handed). h .unfinished ≡ false → getD (h .keys .held) j 0 ≡ 0) n key k
       (λ on e. go (ℕ-discrete j key) (handed-finished n (suc key) (passed k key) e j))
-      (λ up stuck e. let no : _≡_ {A = ℕ} 0 1 = cc in absurd (omega arith))
+      (λ up stuck e. never true refl e)
       done
     where
       go : Dec (j ≡ key)
@@ -141,7 +141,7 @@ module _ (m : Mode) (types : List ℕ) where
   pub handed-waits : (n key : ℕ) (k : Keys) → handedFrom n key k m types .unfinished ≡ true
       → 9 ≤ length (waiting (handedFrom n key k m types .keys .queue))
   unfolding handedFrom
-  handed-waits zero key k e = let no : _≡_ {A = ℕ} 0 1 = cc in omega arith
+  handed-waits zero key k e = never false e refl
   handed-waits (suc n) key k e =
       step (λ (h : Handed). h .unfinished ≡ true → 9 ≤ length (waiting (h .keys .queue))) n key k
       (λ on. handed-waits n (suc key) (passed k key))

@@ -1,18 +1,13 @@
--- The bytes that a line of digits stands for: how many, which, below 256, and how a loop puts them into an array. Assumes nothing.
+-- The bytes that a line of digits stands for: how many, which, and how a loop puts them into an array. Assumes nothing.
 use mathlib.Core.Path.{_≡_, refl, sym, ap, ap₂, _∙_}
-use mathlib.Core.Bool.{true}
 use mathlib.Core.List.{List, append-nil}
-use Prim.Native.Nat.{ℕ, zero, suc, _+_, _*_, _≤_, _<_}
+use Prim.Native.Nat.{ℕ, zero, suc, _+_, _≤_, _<_}
 use native.Mathlib.Nat.{add-zero, add-suc, suc-add, zero-add, le-of-suc-le-suc, not-suc-le-zero, le-antisymm}
 use native.Mathlib.Numerals.{add-one}
 use native.Mathlib.Omega.{arith}
-use borrow.Author.Tests.{le-leb}
 use lib.ListN.{length, getD, set, replicate, length-replicate, drop-of-length-le}
 use lib.Seq.{paste, paste-zero, paste-suc, take-all}
-use Rattle.basics.specs.Lists.{allUpTo}
-use Rattle.basics.proofs.Limits.{up-to-at}
-use Rattle.text.specs.Digits.{valueOf, allDigits, byteAt, bytesFrom}
-use Rattle.text.proofs.Characters.{value-at-below-16}
+use Rattle.text.specs.Digits.{byteAt, bytesFrom}
 
 pub length-bytes : (line : List ℕ) (i n : ℕ) → length (bytesFrom line i n) ≡ n
 unfolding bytesFrom
@@ -27,24 +22,6 @@ bytes-at-from line i (suc n) (suc k) h = rw (add-suc, ← suc-add) (bytes-at-fro
 
 pub bytes-at : (line : List ℕ) (n k : ℕ) → k < n → getD (bytesFrom line 0 n) k 0 ≡ byteAt line k
 bytes-at line n k h = bytes-at-from line 0 n k h ∙ ap (byteAt line) (zero-add k)
-
--- A byte is two digits.
-pub byte-below-256 : (line : List ℕ) (i : ℕ) → allDigits line ≡ true → byteAt line i < 256
-unfolding byteAt
-byte-below-256 line i d =
-    sum (valueOf (getD line (2 * i) 0)) (valueOf (getD line (2 * i + 1) 0)) (value-at-below-16 line (2 * i) d) (value-at-below-16 line (2 * i + 1) d)
-  where
-    sum : (high low : ℕ) → high < 16 → low < 16 → 16 * high + low < 256
-    sum high low h l = omega arith
-
-pub bytes-up-to-255 : (line : List ℕ) (i n : ℕ) → allDigits line ≡ true → allUpTo 255 (bytesFrom line i n) ≡ true
-unfolding allUpTo bytesFrom
-bytes-up-to-255 line i zero d = refl
-bytes-up-to-255 line i (suc n) d =
-    rw (le-leb (byteAt line i) 255 (le-of-suc-le-suc (byte-below-256 line i d))) (bytes-up-to-255 line (suc i) n d)
-
-pub bytes-below-256 : (line : List ℕ) (i n k : ℕ) → allDigits line ≡ true → getD (bytesFrom line i n) k 0 < 256
-bytes-below-256 line i n k d = omega (arith, up-to-at 255 (bytesFrom line i n) k (bytes-up-to-255 line i n d))
 
 -- An array of n zeros with its first i entries replaced by the line's first i bytes.
 unfoldable pub bytesUpTo : ℕ → List ℕ → ℕ → List ℕ
