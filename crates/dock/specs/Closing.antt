@@ -1,5 +1,6 @@
 -- The end of every accepted call: an open handover goes on (docs/RULES.md, section 8). Assumes nothing.
 use Prim.Native.Nat.{ℕ}
+use mathlib.Core.Path.{_≡_}
 use mathlib.Core.Bool.{Bool}
 use mathlib.Core.List.{List, []}
 use Rattle.basics.specs.Choice.{pick}
@@ -22,3 +23,9 @@ closing d = pick (d .handover) (withHanded d (handedOver (d .keys) (d .mode) (d 
 -- All that is passed by value is in its range: so it is with no map and no contacts.
 abbrev pub restInRange : List ℕ → List ℕ → Rest → Bool
 restInRange held types r = inRange (dockWith [] [] [] held types r)
+
+-- What a function promises that does f to the record in place and is lent the flags of held keys and the types, which it leaves as they
+-- are: r is the rest that it is passed, e the one that it gives back, and the arrays that are not lent may be any.
+abbrev pub HeldAfter : (Dock → Dock) → List ℕ → List ℕ → Rest → List ℕ → Rest → Type 0
+HeldAfter f held types r newHeld e =
+    (map closed counts : List ℕ) → dockWith map closed counts newHeld types e ≡ f (dockWith map closed counts held types r)

@@ -2,15 +2,12 @@
 use record::Rest;
 ghost use mathlib.Core.Path.{_≡_};
 ghost use mathlib.Core.Bool.{true};
-ghost use mathlib.Core.List.{List};
-ghost use Prim.Native.Nat.{ℕ};
-ghost use Rattle.record.specs.Apart.{dockWith};
-ghost use Rattle.dock.specs.Closing.{closing, restInRange};
+ghost use Rattle.dock.specs.Closing.{closing, restInRange, HeldAfter};
 
 // An open handover goes on: the flags of the held keys are lent. It is apart, so that calls do not pay for it while none is open.
 pub(crate) fn go_on(held: &mut [u8; 144], types: &[u8; 105], r: Rest) -> Rest
     requires { ⌜ (restInRange (now held) (now types) r ≡ true) × (r .handover ≡ true) ⌝ }
-    ensures { λ e. ⌜ ((map closed counts : List ℕ) → dockWith map closed counts (now (held .exit)) (now (types .entry)) e ≡ closing (dockWith map closed counts (now (held .entry)) (now (types .entry)) r)) ⌝ }
+    ensures { λ e. ⌜ HeldAfter closing (now (held .entry)) (now (types .entry)) r (now (held .exit)) e ⌝ }
 {
     let o = r.outgoing;
     let m = r.mode;
@@ -25,7 +22,7 @@ pub(crate) fn go_on(held: &mut [u8; 144], types: &[u8; 105], r: Rest) -> Rest
 // So an accepted call ends.
 pub fn close_in_place(held: &mut [u8; 144], types: &[u8; 105], r: Rest) -> Rest
     requires { ⌜ restInRange (now held) (now types) r ≡ true ⌝ }
-    ensures { λ e. ⌜ ((map closed counts : List ℕ) → dockWith map closed counts (now (held .exit)) (now (types .entry)) e ≡ closing (dockWith map closed counts (now (held .entry)) (now (types .entry)) r)) ⌝ }
+    ensures { λ e. ⌜ HeldAfter closing (now (held .entry)) (now (types .entry)) r (now (held .exit)) e ⌝ }
 {
     if !r.handover {
         return r;

@@ -7,7 +7,8 @@ ghost use mathlib.Core.Path.{_≡_};
 ghost use mathlib.Core.Bool.{true};
 ghost use mathlib.Core.List.{List};
 ghost use Prim.Native.Nat.{ℕ, _≤_};
-ghost use Rattle.record.specs.Apart.{dockWith};
+ghost use Rattle.record.specs.declared.Dock.{Dock};
+ghost use Rattle.record.specs.Apart.{dockWith, RestAfter};
 ghost use Rattle.record.specs.Range.{inRange};
 ghost use Rattle.dock.specs.Answers.{takenWith};
 ghost use Rattle.dock.specs.Closing.{restInRange};
@@ -15,7 +16,7 @@ ghost use Rattle.dock.specs.Read.{remembering, replyTaken, keyByteTaken,
 
 // A byte was given.
 fn remember(r: Rest, byte: u8) -> Rest
-    ensures { λ e. ⌜ ((map closed counts held types : List ℕ) → dockWith map closed counts held types e ≡ remembering (dockWith map closed counts held types r) byte) ⌝ }
+    ensures { λ e. ⌜ RestAfter (λ (d : Dock). remembering d byte) r e ⌝ }
 {
     if byte == 0xfe {
         return r;

@@ -11,7 +11,7 @@ ghost use lib.ListN.{length};
 ghost use Rattle.record.specs.Apart.{dockWith};
 ghost use Rattle.record.specs.Range.{inRange};
 ghost use Rattle.dock.specs.Answers.{answeredWith};
-ghost use Rattle.dock.specs.Closing.{restInRange};
+ghost use Rattle.dock.specs.Closing.{restInRange, HeldAfter};
 ghost use Rattle.dock.specs.Scan.{listening, counting, changed, repeating, heardScan, scanOf};
 
 // Scans are listened to.
@@ -69,7 +69,7 @@ fn change(
 // The repeat, after the scan's changes.
 fn repeat(held: &[u8; 144], types: &[u8; 105], r: Rest) -> Rest
     requires { ⌜ restInRange (now held) (now types) r ≡ true ⌝ }
-    ensures { λ e. ⌜ ((map closed counts : List ℕ) → dockWith map closed counts (now (held .entry)) (now (types .entry)) e ≡ repeating (dockWith map closed counts (now (held .entry)) (now (types .entry)) r)) ⌝ }
+    ensures { λ e. ⌜ HeldAfter repeating (now (held .entry)) (now (types .entry)) r (now (held .entry)) e ⌝ }
 {
     let replies = r.replies;
     let o = r.outgoing;
