@@ -6,10 +6,11 @@ use Prim.Native.Nat.{ℕ, suc, _+_, _-_, _≤_}
 use native.Mathlib.Omega.{arith}
 use borrow.Author.Tests.{leb-true, le-leb}
 use lib.Dec.{leb}
-use lib.ListN.{length, take, drop, replicate, length-append, length-drop, length-replicate, take-append-drop, replicate-append-replicate}
-use lib.Seq.{length-take-le, drop-append-seam}
+use lib.ListN.{length, take, drop, getD, replicate, length-append, length-drop, length-replicate, take-append-drop, replicate-append-replicate}
+use lib.Seq.{length-take-le, drop-append-seam, getD-drop}
 use Rattle.basics.specs.Lists.{allUpTo}
 use Rattle.basics.proofs.Flags.{left-of-both, right-of-both}
+use Rattle.basics.proofs.Limits.{up-to-at}
 use Rattle.basics.proofs.Zeros.{only-zeros, zeros-up-to-0}
 use Rattle.queue.specs.Queues.{tidyArray}
 
@@ -43,6 +44,12 @@ module _ (places : ℕ) where
 
     tidy-array-behind : allUpTo 0 (drop n b) ≡ true
     tidy-array-behind = right-of-both (leb n places) _ t
+
+    pub zero-behind : (i : ℕ) → n ≤ i → 0 ≡ getD b i 0
+    zero-behind i h =
+        let at : n + (i - n) ≡ i = omega arith in
+        let none : getD b (n + (i - n)) 0 ≤ 0 = rw (← getD-drop n b (i - n) 0) (up-to-at 0 (drop n b) (i - n) tidy-array-behind) in
+        omega (arith, rw at at none)
 
     module _ (long : length b ≡ places) where
       pub tidy-array-count : length (take n b) ≡ n

@@ -9,7 +9,7 @@ use native.Mathlib.Omega.{arith}
 use lib.ListN.{length, take, drop, set, getD}
 use Rattle.queue.specs.declared.Queue.{Queue}
 use Rattle.queue.specs.Queues.{queueWith, waiting, queueOf, tidy}
-use Rattle.queue.proofs.Places.{popped-bytes, popped-count}
+use Rattle.queue.proofs.Places.{zero-behind, popped-bytes, popped-count}
 use Rattle.queue.proofs.Meaning.{tidy-is}
 
 -- The first i places have what stood one place behind them, the others what they had.
@@ -27,8 +27,8 @@ one-more (x ∷ y ∷ b) (suc i) h = ap (λ (r : List ℕ). y ∷ r) (one-more (
 one-more [] i h = absurd (omega arith)
 one-more (x ∷ []) i h = absurd (omega arith)
 
-pub moved-more : (b a : List ℕ) (i : ℕ) → a ≡ moved b i → i + 1 < length b → set a i (getD b (i + 1) 0) ≡ moved b (i + 1)
-moved-more b a i e h = rw (e, add-one) (one-more b i (omega arith))
+pub moved-more : (b a : List ℕ) (i byte : ℕ) → a ≡ moved b i → byte ≡ getD b (i + 1) 0 → i + 1 < length b → set a i byte ≡ moved b (i + 1)
+moved-more b a i byte e f h = rw (e, f, add-one) (one-more b i (omega arith))
 
 -- When all places but the last are moved, and the last is 0.
 moved-all : (b : List ℕ) (k : ℕ) → length b ≡ suc k → set (moved b k) k 0 ≡ drop 1 b ++ 0 ∷ []
@@ -38,6 +38,11 @@ moved-all (x ∷ y ∷ b) (suc k) e = ap (λ (r : List ℕ). y ∷ r) (moved-all
 moved-all [] k e = absurd (omega arith)
 moved-all (x ∷ []) (suc k) e = absurd (omega arith)
 moved-all (x ∷ y ∷ b) zero e = absurd (omega arith)
+
+-- Behind the bytes that wait stand zeros.
+pub zero-past : (q : Queue) → tidy q ≡ true → (i : ℕ) → q .length ≤ i → 0 ≡ getD (q .bytes) i 0
+unfolding tidy
+zero-past q t = zero-behind 16 (q .bytes) (q .length) t
 
 module _ (q : Queue) (t : tidy q ≡ true) (places : length (q .bytes) ≡ 16) where
   pub popped-empty : q .length ≡ 0 → q ≡ queueOf (drop 1 (waiting q))

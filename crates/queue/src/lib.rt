@@ -83,7 +83,8 @@ pub fn push(bytes: &mut [u8; 16], at: usize, s: Sequence, mark: u8) -> usize
     e.length
 }
 
-// The queue without its oldest byte.
+// The queue without its oldest byte. Zeros stand behind the bytes as it is, and the test in the loop changes nothing: with it the
+// compiler leaves the loop as it stands, and every line of the bench is a tenth quicker (docs/SPEED.md).
 pub fn popped(q: Queue) -> Queue
     requires { ⌜ tidy q ≡ true ⌝ }
     ensures { λ r. ⌜ r ≡ queueOf (drop 1 (waiting q)) ⌝ }
@@ -95,7 +96,7 @@ pub fn popped(q: Queue) -> Queue
     let mut e = q;
     let mut i: usize = 0;
     while i < 15 {
-        e.bytes[i] = q.bytes[i + 1];
+        e.bytes[i] = if i + 1 < n { q.bytes[i + 1] } else { 0 };
         i += 1;
     }
     e.bytes[15] = 0;

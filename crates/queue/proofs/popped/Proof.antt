@@ -1,11 +1,12 @@
 -- `queue::popped` meets its contract. The loop's invariant: i is at most 15, and the first i bytes have been moved one place to the front.
 -- The measure is what is left of the 15 places. Assumes nothing.
-use mathlib.Core.Path.{_≡_}
-use Prim.Native.Nat.{_-_, _≤_}
+use mathlib.Core.Path.{_≡_, _∙_}
+use mathlib.Core.Logic.{⊎-elim}
+use Prim.Native.Nat.{_+_, _-_, _≤_}
 use native.Mathlib.Omega.{arith}
 use borrow.Author.Needs.{needs}
-use lib.ListN.{length}
-use Rattle.queue.proofs.Popping.{moved, moved-none, moved-more, popped-empty, popped-by-moving}
+use lib.ListN.{length, getD}
+use Rattle.queue.proofs.Popping.{moved, moved-none, moved-more, zero-past, popped-empty, popped-by-moving}
 use Rattle.queue.proofs.popped.Statement.{statement}
 use Rattle.queue.proofs.popped.Tie as tie
 
@@ -24,6 +25,9 @@ returns c =
 loop-holds : tie.Need-loop-holds Inv-loop μ-loop
 loop-holds c = (omega arith, moved-none _)
 
+add-if2 : tie.Need-add-if2 Inv-loop μ-loop
+add-if2 c = omega arith
+
 add-e : tie.Need-add-e Inv-loop μ-loop
 add-e c = omega arith
 
@@ -41,10 +45,12 @@ loop-less c = omega arith
 
 loop-again : tie.Need-loop-again Inv-loop μ-loop
 loop-again c =
-    let q = c .before .before .before .before .args .t1 in
+    let s = c .before .before .before .before in
+    let q = s .args .t1 in
     let l = c .before .before .loop in
     let places : length (q .bytes) ≡ 16 = search needs in
-    (omega arith, moved-more (q .bytes) (l .e .bytes) (l .i) (l .inv .1) (omega arith))
+    let byte : c .if2 .e ≡ getD (q .bytes) (l .i + 1) 0 = ⊎-elim (λ w. w .2) (λ w. w .1 ∙ zero-past q (s .pre) (l .i + 1) (w .0 .left)) (c .if2 .came) in
+    (omega arith, moved-more (q .bytes) (l .e .bytes) (l .i) (c .if2 .e) (l .inv .1) byte (omega arith))
 
 element-write-e-2 : tie.Need-element-write-e-2 Inv-loop μ-loop
 element-write-e-2 c = search needs
@@ -66,6 +72,7 @@ popped-spec =
     μ-loop
     returns
     loop-holds
+    add-if2
     add-e
     element-copy-out-e
     element-write-e
