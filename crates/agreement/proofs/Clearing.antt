@@ -9,6 +9,7 @@ use borrow.Author.Tests.{eqb-true, eqb-false, ne-eqb, leb-true, leb-false, le-le
 use lib.Dec.{eqb, leb}
 use Rattle.basics.specs.Choice.{pick, either, between}
 use Rattle.basics.proofs.Flags.{left-of-both, right-of-both}
+use Rattle.dock.specs.Answers.{isAccepted}
 use Rattle.dock.specs.Frame.{tookFrame, frameOf}
 use Rattle.frames.specs.declared.Unpacked.{Unpacked}
 use Rattle.frames.specs.declared.Unpacked.the-variants.{Byte, Broken, TooLarge}
@@ -19,7 +20,7 @@ use Rattle.queue.proofs.Meaning.{waiting-queueOf}
 use Rattle.record.specs.declared.Dock.{Dock}
 use Rattle.record.specs.Power.{freshWith}
 use Rattle.record.specs.Range.{inRange}
-use Rattle.runs.specs.Calls.{Frame, isAccepted, clears, carries, isClearing}
+use Rattle.runs.specs.Calls.{Frame, clears, carries, isClearing}
 use Rattle.runs.specs.Bytes.{closingBytes, frameBytes, queuedBy}
 use Rattle.basics.proofs.Cases.{by-cases, never}
 use Rattle.agreement.proofs.Queuing.{bytesOf, closing-bytes}

@@ -10,6 +10,7 @@ use borrow.Author.Tests.{eqb-true, eqb-false, leb-true, leb-false}
 use lib.Dec.{eqb, leb}
 use Rattle.basics.specs.Choice.{pick, both, either, between}
 use Rattle.basics.proofs.Flags.{left-of-both, right-of-both}
+use Rattle.dock.specs.Answers.{isAccepted}
 use Rattle.dock.specs.Frame.{tookFrame, frameOf}
 use Rattle.frames.specs.declared.Unpacked.{Unpacked}
 use Rattle.frames.specs.declared.Unpacked.the-variants.{Byte, Broken, TooLarge}
@@ -22,7 +23,7 @@ use Rattle.record.specs.declared.Dock.{Dock}
 use Rattle.record.specs.Parts.{withWaiting}
 use Rattle.record.specs.Power.{freshWith}
 use Rattle.record.specs.Range.{takesValue, inRange}
-use Rattle.runs.specs.Calls.{isAccepted, clears, carries, isClearing}
+use Rattle.runs.specs.Calls.{clears, carries, isClearing}
 use Rattle.runs.specs.Worlds.{isReset, scansAfterFrame}
 use Rattle.telling.proofs.Held.{none-agree, contact-open}
 use Rattle.basics.proofs.Zeros.{zeros-at}

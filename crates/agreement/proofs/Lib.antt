@@ -13,4 +13,4 @@ pub mod AfterReads
 pub mod Queuing
 pub mod Queue
 pub mod Clearing
-pub mod Refusals
+pub mod Numbers

@@ -16,7 +16,7 @@ use Rattle.dock.specs.declared.Answered.{Answered}
 use Rattle.dock.specs.declared.Answer.the-variants.{Accepted, MapDouble}
 use Rattle.dock.specs.declared.Given.the-variants.{Nothing}
 use Rattle.dock.specs.declared.Taken.{Taken}
-use Rattle.dock.specs.Answers.{answered, taken}
+use Rattle.dock.specs.Answers.{isAccepted, answered, taken}
 use Rattle.dock.specs.Closing.{closing}
 use Rattle.dock.specs.Swap.{opened, remapped, swapped, swapOf}
 use Rattle.dock.specs.Frame.{tookFrame, frameOf}
@@ -32,7 +32,7 @@ use Rattle.record.specs.declared.Keys.{Keys}
 use Rattle.record.specs.declared.Dock.{Dock}
 use Rattle.record.specs.Parts.{withKeys, withReplies, withQueue}
 use Rattle.record.specs.Range.{inRange}
-use Rattle.runs.specs.Calls.{Call, Scan, Swap, Frame, Read, isAccepted, clears, carries, isClearing, isClearingCall}
+use Rattle.runs.specs.Calls.{Call, Scan, Swap, Frame, Read, clears, carries, isClearing, isClearingCall}
 use Rattle.runs.specs.Worlds.{World, woken, next, afterCalls}
 use Rattle.runs.specs.Runs.{overrunsIn, undisturbed}
 use Rattle.runs.specs.Bytes.{closingBytes, frameBytes, readBytes, queuedBy, keyBytesOf, givenBy, queuedIn, givenIn}

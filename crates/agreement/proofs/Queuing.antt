@@ -12,7 +12,7 @@ use Rattle.codes.specs.Codes.{mayRepeat}
 use Rattle.contacts.specs.Phantom.{isPhantom}
 use Rattle.contacts.specs.Counts.{countedOf}
 use Rattle.dock.specs.declared.Answer.the-variants.{Accepted, ScanLength}
-use Rattle.dock.specs.Answers.{answered}
+use Rattle.dock.specs.Answers.{isAccepted, answered}
 use Rattle.dock.specs.Closing.{closing}
 use Rattle.dock.specs.Scan.{listening, isCounted, counting, changed, quiet, repeating, heardScan, scanned, scanOf}
 use Rattle.keying.specs.Repeat.{ticked, isDue, repeated}
@@ -24,7 +24,7 @@ use Rattle.record.specs.declared.Keys.{Keys}
 use Rattle.record.specs.declared.Dock.{Dock}
 use Rattle.record.specs.Parts.{withKeys}
 use Rattle.record.specs.Range.{inRange}
-use Rattle.runs.specs.Calls.{Scan, isAccepted}
+use Rattle.runs.specs.Calls.{Scan}
 use Rattle.runs.specs.Runs.{changesOverrun, overruns}
 use Rattle.runs.specs.Bytes.{repeatBytes, changeBytes, heardBytes, closingBytes, scanBytes, queuedBy}
 use Rattle.telling.specs.Queued.{turnBytes}

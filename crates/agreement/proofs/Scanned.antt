@@ -12,7 +12,7 @@ use Rattle.basics.proofs.Cases.{never}
 use Rattle.contacts.specs.declared.Contacts.{Contacts}
 use Rattle.contacts.specs.Phantom.{isPhantom}
 use Rattle.contacts.specs.Counts.{unseen, countedOf}
-use Rattle.dock.specs.Answers.{answered}
+use Rattle.dock.specs.Answers.{isAccepted, answered}
 use Rattle.dock.specs.declared.Answer.the-variants.{Accepted, ScanLength}
 use Rattle.dock.specs.Closing.{closing}
 use Rattle.dock.specs.Scan.{listening, isCounted, counting, changed, quiet, repeating, heardScan, scanned, scanOf}
@@ -24,7 +24,6 @@ use Rattle.record.specs.declared.Keys.{Keys}
 use Rattle.record.specs.declared.Dock.{Dock}
 use Rattle.record.specs.Parts.{withKeys}
 use Rattle.record.specs.Range.{inRange}
-use Rattle.runs.specs.Calls.{isAccepted}
 use Rattle.runs.specs.Runs.{changesOverrun, overruns}
 use Rattle.runs.specs.Worlds.{scansAfterScan}
 use Rattle.telling.proofs.Held.{turns-agree}

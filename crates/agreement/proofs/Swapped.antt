@@ -12,14 +12,13 @@ use Rattle.basics.specs.Lists.{allUpTo}
 use Rattle.contacts.specs.Counts.{unseen}
 use Rattle.dock.specs.declared.Answered.{Answered}
 use Rattle.dock.specs.declared.Answer.the-variants.{Accepted, MapLength, MapEntry, MapDouble}
-use Rattle.dock.specs.Answers.{answered}
+use Rattle.dock.specs.Answers.{isAccepted, answered}
 use Rattle.dock.specs.Swap.{opened, remapped, swapped, swapOf}
 use Rattle.history.specs.Scans.{countedAll}
 use Rattle.maps.specs.Maps.{hasDouble}
 use Rattle.record.specs.declared.Dock.{Dock}
 use Rattle.record.specs.Parts.{withMap}
 use Rattle.record.specs.Range.{inRange}
-use Rattle.runs.specs.Calls.{isAccepted}
 use Rattle.runs.specs.Worlds.{scansAfterSwap}
 use Rattle.basics.proofs.Cases.{by-cases, picked, never}
 use Rattle.terminal.specs.Terminals.{Terminal}

@@ -15,9 +15,9 @@ use Rattle.dock.specs.Closing.{closing}
 use Rattle.dock.specs.Frame.{tookFrame, frameOf}
 
 module _ (d : Dock) (number : ℕ) where
-  pub frame-refused : inRange d ≡ false → answered BadRecord d ≡ frameOf d number
+  pub frame-bad-record : inRange d ≡ false → answered BadRecord d ≡ frameOf d number
   unfolding frameOf
-  frame-refused f = rw f
+  frame-bad-record f = rw f
 
   module _ (h : inRange d ≡ true) (unpacked : Unpacked) (u : unpacked ≡ unpackedOf number) where
     by-case : (which : Unpacked) → unpacked ≡ which → tookFrame which d ≡ frameOf d number

@@ -6,3 +6,4 @@ pub mod Swapping
 pub mod Framing
 pub mod Resting
 pub mod Sizes
+pub mod Refusals

@@ -47,9 +47,9 @@ module _ (d : Dock) (byte : ℕ) (kept r : Dock) (i : r ≡ closing kept) where
 
 -- The whole call.
 module _ (d : Dock) where
-  pub read-refused : inRange d ≡ false → taken Refused d ≡ readOf d
+  pub read-bad-record : inRange d ≡ false → taken Refused d ≡ readOf d
   unfolding readOf
-  read-refused f = rw f
+  read-bad-record f = rw f
 
   module _ (h : inRange d ≡ true) where
     pub read-reply : (d .replies .length ≡ 0 → ⊥) → (r : Taken) → r ≡ replyTaken d → r ≡ readOf d

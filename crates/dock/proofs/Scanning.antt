@@ -55,9 +55,9 @@ heard-whole d scan next r e i = rw e at i
 
 -- The whole call.
 module _ (d : Dock) (scan : List ℕ) where
-  pub scan-refused : inRange d ≡ false → answered BadRecord d ≡ scanOf d scan
+  pub scan-bad-record : inRange d ≡ false → answered BadRecord d ≡ scanOf d scan
   unfolding scanOf
-  scan-refused f = rw f
+  scan-bad-record f = rw f
 
   module _ (h : inRange d ≡ true) where
     pub scan-wrong-length : (length scan ≡ 18 → ⊥) → answered ScanLength d ≡ scanOf d scan

@@ -36,9 +36,9 @@ module _ (d : Dock) (map : List ℕ) where
 
 -- The whole call.
 module _ (d : Dock) (map : List ℕ) where
-  pub swap-refused : inRange d ≡ false → answered BadRecord d ≡ swapOf d map
+  pub swap-bad-record : inRange d ≡ false → answered BadRecord d ≡ swapOf d map
   unfolding swapOf
-  swap-refused f = rw f
+  swap-bad-record f = rw f
 
   module _ (g : inRange d ≡ true) where
     pub swap-wrong-length : (length map ≡ 144 → ⊥) → answered MapLength d ≡ swapOf d map

@@ -1,6 +1,8 @@
 -- The numbers that calls give back (docs/RULES.md, section 9). Assumes nothing.
 use Prim.Native.Nat.{ℕ}
+use mathlib.Core.Bool.{Bool}
 use mathlib.Core.List.{List}
+use lib.Dec.{eqb}
 use Rattle.record.specs.declared.Dock.{Dock}
 use Rattle.dock.specs.declared.Answer.{Answer}
 use Rattle.dock.specs.declared.Answer.the-variants.{Accepted, ScanLength, MapLength, MapEntry, MapDouble, FrameNumber, BadRecord}
@@ -21,6 +23,10 @@ numberOf MapEntry = 3
 numberOf MapDouble = 4
 numberOf FrameNumber = 5
 numberOf BadRecord = 9
+
+-- A call was accepted: its number is 0.
+abbrev pub isAccepted : Answer → Bool
+isAccepted answer = eqb (numberOf answer) 0
 
 -- The number of a read: only a bad record is refused.
 abbrev pub readNumberOf : Given → ℕ

@@ -1,14 +1,13 @@
 -- What a line of the bench does and prints (docs/RULES.md, section 12). Assumes nothing.
 use Prim.Native.Nat.{ℕ}
 use mathlib.Core.List.{List}
-use lib.Dec.{eqb}
 use Rattle.basics.specs.Choice.{pick}
 use Rattle.dock.specs.declared.Answer.{Answer}
 use Rattle.dock.specs.declared.Answered.{Answered}
 use Rattle.dock.specs.declared.Given.{Given}
 use Rattle.dock.specs.declared.Given.the-variants.{Nothing, Reply, KeyByte, Refused}
 use Rattle.dock.specs.declared.Taken.{Taken}
-use Rattle.dock.specs.Answers.{numberOf, readNumberOf}
+use Rattle.dock.specs.Answers.{numberOf, isAccepted, readNumberOf}
 use Rattle.dock.specs.Frame.{frameOf}
 use Rattle.dock.specs.Read.{readOf}
 use Rattle.dock.specs.Scan.{scanOf}
@@ -28,7 +27,7 @@ use Rattle.lines.specs.declared.Walked.{Walked}
 
 -- An accepted line prints nothing; a refused one prints its number.
 abbrev pub answerPrints : Answer → Printed
-answerPrints answer = pick (eqb (numberOf answer) 0) Silence (RefusalLine (numberOf answer))
+answerPrints answer = pick (isAccepted answer) Silence (RefusalLine (numberOf answer))
 
 -- A read prints the frame of the byte given, or 000.
 abbrev pub readPrints : Given → Printed

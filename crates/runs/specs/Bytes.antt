@@ -11,6 +11,7 @@ use Rattle.contacts.specs.Phantom.{isPhantom}
 use Rattle.contacts.specs.Counts.{countedOf}
 use Rattle.dock.specs.declared.Given.{Given}
 use Rattle.dock.specs.declared.Given.the-variants.{Nothing, Reply, KeyByte, Refused}
+use Rattle.dock.specs.Answers.{isAccepted}
 use Rattle.dock.specs.Scan.{listening, changed, quiet, scanOf}
 use Rattle.dock.specs.Swap.{remapped, swapOf}
 use Rattle.dock.specs.Frame.{frameOf}
@@ -26,7 +27,7 @@ use Rattle.record.specs.declared.Dock.{Dock}
 use Rattle.record.specs.Parts.{withKeys, withQueue}
 use Rattle.sending.specs.Sending.{sends}
 use Rattle.telling.specs.Queued.{turnBytes, handedBytes}
-use Rattle.runs.specs.Calls.{Call, Scan, Swap, Frame, Read, isAccepted}
+use Rattle.runs.specs.Calls.{Call, Scan, Swap, Frame, Read}
 use Rattle.runs.specs.Worlds.{World, next}
 
 -- The bytes of a repeat, if one is due, the key still may repeat, and all is quiet.

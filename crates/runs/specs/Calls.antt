@@ -1,14 +1,12 @@
 -- The calls of a dock, and the frames that demand 3 leaves out (docs/RULES.md, section 13). Assumes nothing.
 use Prim.Native.Nat.{ℕ}
-use mathlib.Core.Bool.{Bool, true, false}
+use mathlib.Core.Bool.{Bool, false}
 use mathlib.Core.List.{List}
 use lib.Dec.{eqb}
 use Rattle.basics.specs.Choice.{either, between}
 use Rattle.frames.specs.declared.Unpacked.{Unpacked}
 use Rattle.frames.specs.declared.Unpacked.the-variants.{Byte, Broken, TooLarge}
 use Rattle.frames.specs.Frames.{unpackedOf}
-use Rattle.dock.specs.declared.Answer.{Answer}
-use Rattle.dock.specs.declared.Answer.the-variants.{Accepted, ScanLength, MapLength, MapEntry, MapDouble, FrameNumber, BadRecord}
 
 -- Any call with anything in it: bytes of any number as a scan or a map, any number as a frame.
 pub data Call : Type 0 where
@@ -16,16 +14,6 @@ pub data Call : Type 0 where
   Swap : List ℕ → Call
   Frame : ℕ → Call
   Read : Call
-
--- A call was accepted.
-abbrev pub isAccepted : Answer → Bool
-isAccepted Accepted = true
-isAccepted ScanLength = false
-isAccepted MapLength = false
-isAccepted MapEntry = false
-isAccepted MapDouble = false
-isAccepted FrameNumber = false
-isAccepted BadRecord = false
 
 -- A host byte that clears the key queue: F0, F4 to FD and FF.
 unfoldable pub clears : ℕ → Bool

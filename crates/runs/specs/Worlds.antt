@@ -8,6 +8,7 @@ use lib.Dec.{eqb}
 use Rattle.basics.specs.Choice.{pick, both}
 use Rattle.dock.specs.declared.Given.{Given}
 use Rattle.dock.specs.declared.Given.the-variants.{Nothing, Reply, KeyByte, Refused}
+use Rattle.dock.specs.Answers.{isAccepted}
 use Rattle.dock.specs.Scan.{isCounted, scanOf}
 use Rattle.dock.specs.Swap.{swapOf}
 use Rattle.dock.specs.Frame.{frameOf}
@@ -17,7 +18,7 @@ use Rattle.history.specs.Scans.{saysHeld}
 use Rattle.record.specs.declared.Dock.{Dock}
 use Rattle.record.specs.Power.{powerOn}
 use Rattle.terminal.specs.Terminals.{Terminal, begun, hears}
-use Rattle.runs.specs.Calls.{Call, Scan, Swap, Frame, Read, isAccepted, carries}
+use Rattle.runs.specs.Calls.{Call, Scan, Swap, Frame, Read, carries}
 
 -- The scans are those counted since the last power-on, reset or swap, in the order in which they came.
 pub record World : Type 0 where

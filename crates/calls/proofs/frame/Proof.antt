@@ -7,7 +7,7 @@ use Rattle.dock.specs.declared.Answered.{Answered}
 use Rattle.dock.specs.Answers.{answered}
 use Rattle.dock.specs.Frame.{frameOf}
 use Rattle.dock.proofs.InRange.{rest-in-range, apart-in-range}
-use Rattle.dock.proofs.Framing.{frame-refused}
+use Rattle.dock.proofs.Framing.{frame-bad-record}
 use Rattle.calls.proofs.Whole.{put-together}
 use Rattle.calls.proofs.frame.Statement.{statement}
 use Rattle.calls.proofs.frame.Tie as tie
@@ -16,7 +16,7 @@ in-range-requires : tie.Need-in-range-requires
 in-range-requires c κs = search needs
 
 returns : tie.Need-returns
-returns c = frame-refused _ _ (sym (c .before .in-range .ensures) ∙ not-true _ (c .if1 .taken))
+returns c = frame-bad-record _ _ (sym (c .before .in-range .ensures) ∙ not-true _ (c .if1 .taken))
 
 rest-of-requires : tie.Need-rest-of-requires
 rest-of-requires c κs = search needs

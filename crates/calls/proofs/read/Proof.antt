@@ -7,7 +7,7 @@ use Rattle.dock.specs.declared.Taken.{Taken}
 use Rattle.dock.specs.Answers.{taken}
 use Rattle.dock.specs.Read.{readOf}
 use Rattle.dock.proofs.InRange.{rest-in-range, apart-in-range}
-use Rattle.dock.proofs.Reading.{read-refused}
+use Rattle.dock.proofs.Reading.{read-bad-record}
 use Rattle.calls.proofs.Whole.{put-together}
 use Rattle.calls.proofs.read.Statement.{statement}
 use Rattle.calls.proofs.read.Tie as tie
@@ -16,7 +16,7 @@ in-range-requires : tie.Need-in-range-requires
 in-range-requires c κs = search needs
 
 returns : tie.Need-returns
-returns c = read-refused _ (sym (c .before .in-range .ensures) ∙ not-true _ (c .if1 .taken))
+returns c = read-bad-record _ (sym (c .before .in-range .ensures) ∙ not-true _ (c .if1 .taken))
 
 rest-of-requires : tie.Need-rest-of-requires
 rest-of-requires c κs = search needs
