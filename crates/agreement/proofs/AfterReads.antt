@@ -8,6 +8,7 @@ use lib.Dec.{eqb}
 use lib.ListN.{replicate}
 use Rattle.basics.specs.Choice.{both, either}
 use Rattle.basics.proofs.Cases.{picked}
+use Rattle.keys.specs.Keys.{lastKey}
 use Rattle.dock.specs.declared.Taken.{Taken}
 use Rattle.dock.specs.Closing.{closing}
 use Rattle.dock.specs.Scan.{quiet}
@@ -74,7 +75,7 @@ module _ (earlier calls : List Call) (begins : mayBegin (afterCalls woken earlie
   nothing : quiet (afterCalls start (calls ++ replicate n Read) .dock) ≡ true
   nothing = rw (after-both calls (replicate n Read) start) (enough-reads (afterCalls start calls) (any-steady calls start steady) n enough)
 
-  pub third-demand-after-reads : (key : ℕ) → 1 ≤ key → key ≤ 104 → (key ≡ 101 → ⊥)
+  pub third-demand-after-reads : (key : ℕ) → 1 ≤ key → key ≤ lastKey → (key ≡ 101 → ⊥)
       → isDown (afterCalls (beginning (afterCalls woken earlier)) (calls ++ replicate n Read) .terminal) key
       ≡ scansSay (afterCalls (beginning (afterCalls woken earlier)) (calls ++ replicate n Read)) key
   unfolding start

@@ -8,6 +8,7 @@ use lib.Dec.{eqb, leb}
 use lib.ListN.{length, take, drop, length-take, length-drop}
 use Rattle.basics.specs.Lists.{allUpTo}
 use Rattle.basics.proofs.Cases.{picked}
+use Rattle.keys.specs.Keys.{lastKey}
 use Rattle.contacts.specs.Phantom.{isPhantom}
 use Rattle.dock.specs.declared.Answered.{Answered}
 use Rattle.dock.specs.declared.Taken.{Taken}
@@ -63,7 +64,7 @@ swap-replies d map =
     let Kept : Dock → Type 0 = λ (e : Dock). e .replies ≡ d .replies in
     picked Same (inRange d) _ _
     (picked Same (eqb (length map) 144) _ _
-    (picked Same (allUpTo 104 map) _ _
+    (picked Same (allUpTo lastKey map) _ _
     (picked Same (hasDouble map) _ _ refl
     (closing-replies (remapped d map) ∙ picked Kept (d .handover) _ _ refl refl))
     refl)

@@ -10,6 +10,7 @@ use lib.Dec.{eqb}
 use lib.ListN.{length, replicate, drop, length-drop}
 use Rattle.basics.proofs.Cases.{by-cases, picked, never}
 use Rattle.basics.proofs.Flags.{left-of-both, right-of-both}
+use Rattle.keys.specs.Keys.{lastKey}
 use Rattle.dock.specs.declared.Taken.{Taken}
 use Rattle.dock.specs.Closing.{withHanded, closing}
 use Rattle.dock.specs.Scan.{quiet}
@@ -38,7 +39,7 @@ stillToRead d = length (waitingReplies (d .replies)) + toRead (d .keys)
 closing-less : (d : Dock) → stillToRead (closing d) ≤ stillToRead d
 unfolding closing
 closing-less d =
-    let handed = handed-less (d .mode) (d .types) 104 1 (omega arith) (omega arith) (d .keys) in
+    let handed = handed-less (d .mode) (d .types) lastKey 1 (omega arith) (omega arith) (d .keys) in
     picked (λ (e : Dock). stillToRead e ≤ stillToRead d) (d .handover) (withHanded d (handedOver (d .keys) (d .mode) (d .types))) d
     (omega arith)
     (omega arith)
@@ -117,7 +118,7 @@ reads-all (suc n) w s most = go (quiet (w .dock)) refl (reads-all n (next w Read
 
 -- 851: three replies, 16 key bytes, and eight for each of 104 keys.
 pub enough-reads : (w : World) → Steady w → (n : ℕ) → 851 ≤ n → quiet (afterCalls w (replicate n Read) .dock) ≡ true
-enough-reads w s n enough = reads-all n w s (omega (arith, keys-few w (s .sound), replies-few w s, held-most 104 (w .dock .keys .held)))
+enough-reads w s n enough = reads-all n w s (omega (arith, keys-few w (s .sound), replies-few w s, held-most lastKey (w .dock .keys .held)))
 
 -- After any calls,
 pub reads-quieten : (calls : List Call) (n : ℕ) → 851 ≤ n → quiet (afterCalls (afterCalls woken calls) (replicate n Read) .dock) ≡ true

@@ -8,6 +8,7 @@ use native.Mathlib.Omega.{arith}
 use borrow.Author.Tests.{leb-true, leb-false}
 use lib.Dec.{leb}
 use Rattle.basics.proofs.Cases.{picked}
+use Rattle.keys.specs.Keys.{lastKey}
 use Rattle.dock.specs.Closing.{withHanded, closing}
 use Rattle.keying.specs.Handover.{handedOver}
 use Rattle.queue.specs.declared.Queue.{Queue}
@@ -34,14 +35,14 @@ unfolding waiting
 none-wait q e = rw e
 
 -- The key that repeats is a key.
-pub repeats-within : (k : Keys) → Outside (k .held) → Repeats k → k .repeating ≤ 104
-repeats-within k out some = go (leb (k .repeating) 104) refl
+pub repeats-within : (k : Keys) → Outside (k .held) → Repeats k → k .repeating ≤ lastKey
+repeats-within k out some = go (leb (k .repeating) lastKey) refl
   where
-    go : (b : Bool) → leb (k .repeating) 104 ≡ b → k .repeating ≤ 104
-    go true e = leb-true (k .repeating) 104 e
+    go : (b : Bool) → leb (k .repeating) lastKey ≡ b → k .repeating ≤ lastKey
+    go true e = leb-true (k .repeating) lastKey e
     go false e =
         ⊎-elim (λ none. omega arith)
-        (λ held. let up = out (k .repeating) (inr (leb-false (k .repeating) 104 e)) in omega arith)
+        (λ held. let up = out (k .repeating) (inr (leb-false (k .repeating) lastKey e)) in omega arith)
         some
 
 -- The end of every accepted call.
@@ -52,6 +53,6 @@ closing-follows d t f =
     (record {
       chosen = f .chosen;
       firm = f .firm;
-      told = handed-told (d .mode) (f .chosen) t (d .types) 104 1 (omega arith) (omega arith) (d .keys) (f .told);
+      told = handed-told (d .mode) (f .chosen) t (d .types) lastKey 1 (omega arith) (omega arith) (d .keys) (f .told);
     })
     f

@@ -8,6 +8,7 @@ use lib.ListN.{length}
 use Rattle.basics.specs.Choice.{pick}
 use Rattle.basics.specs.Lists.{allUpTo}
 use Rattle.basics.proofs.Cases.{picked, two-by-cases}
+use Rattle.keys.specs.Keys.{lastKey}
 use Rattle.dock.specs.declared.Answered.{Answered}
 use Rattle.dock.specs.declared.Taken.{Taken}
 use Rattle.dock.specs.Answers.{numberOf, readNumberOf}
@@ -37,12 +38,12 @@ module _ (d : Dock) where
 
   pub swap-number : (map : List ℕ)
       → numberOf (swapOf d map .answer)
-      ≡ pick (inRange d) (pick (eqb (length map) 144) (pick (allUpTo 104 map) (pick (hasDouble map) 4 0) 3) 2) 9
+      ≡ pick (inRange d) (pick (eqb (length map) 144) (pick (allUpTo lastKey map) (pick (hasDouble map) 4 0) 3) 2) 9
   unfolding Numbered swapOf
   swap-number map =
       two-by-cases Numbered (inRange d) _ _ _ _
       (λ fine. two-by-cases Numbered (eqb (length map) 144) _ _ _ _
-      (λ fine. two-by-cases Numbered (allUpTo 104 map) _ _ _ _
+      (λ fine. two-by-cases Numbered (allUpTo lastKey map) _ _ _ _
       (λ fine. two-by-cases Numbered (hasDouble map) _ _ _ _ (λ double. refl) (λ fine. refl))
       (λ high. refl))
       (λ long. refl))

@@ -12,6 +12,7 @@ use lib.ListN.{length, getD, drop}
 use Rattle.basics.specs.Choice.{pick, either}
 use Rattle.basics.specs.Lists.{allUpTo}
 use Rattle.basics.proofs.Flags.{left-of-both, right-of-both}
+use Rattle.keys.specs.Keys.{lastKey}
 use Rattle.dock.specs.declared.Answered.{Answered}
 use Rattle.dock.specs.declared.Answer.the-variants.{Accepted, MapDouble}
 use Rattle.dock.specs.declared.Given.the-variants.{Nothing}
@@ -57,7 +58,7 @@ module _ (d : Dock) where
       let same : bytesOf d ≡ bytesOf d ++ [] = sym (append-nil (bytesOf d)) in
       rw range
       (picked Grown (eqb (length map) 144) _ _
-      (picked Grown (allUpTo 104 map) _ _
+      (picked Grown (allUpTo lastKey map) _ _
       (picked Grown (hasDouble map) (answered MapDouble d) (answered Accepted (swapped d map)) same
       (closing-bytes then ∙ ap (λ (l : List ℕ). l ++ closingBytes then) (remapped-bytes map)))
       same)

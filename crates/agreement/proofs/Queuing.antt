@@ -8,6 +8,7 @@ use lib.Dec.{eqb}
 use lib.ListN.{length, getD}
 use Rattle.basics.specs.Choice.{pick, both}
 use Rattle.basics.proofs.Flags.{right-of-both}
+use Rattle.keys.specs.Keys.{lastKey}
 use Rattle.codes.specs.Codes.{mayRepeat}
 use Rattle.contacts.specs.Phantom.{isPhantom}
 use Rattle.contacts.specs.Counts.{countedOf}
@@ -41,7 +42,7 @@ pub closing-bytes : (d : Dock) → bytesOf (closing d) ≡ bytesOf d ++ closingB
 unfolding closing closingBytes
 closing-bytes d =
     two-by-cases (λ (e : Dock) (bytes : List ℕ). bytesOf e ≡ bytesOf d ++ bytes) (d .handover) _ _ _ _
-    (λ opened. handed-whole (d .mode) (d .types) 104 1 (d .keys))
+    (λ opened. handed-whole (d .mode) (d .types) lastKey 1 (d .keys))
     (λ shut. sym (append-nil (bytesOf d)))
 
 -- A repeat is sent only where nothing waits.

@@ -6,6 +6,7 @@ use Prim.Native.Nat.{ℕ, _≤_, _<_}
 use native.Mathlib.Omega.{arith}
 use lib.ListN.{length}
 use Rattle.basics.specs.Lists.{allUpTo}
+use Rattle.keys.specs.Keys.{lastKey}
 use Rattle.contacts.specs.declared.Contacts.{Contacts}
 use Rattle.contacts.specs.Scans.{contact}
 use Rattle.contacts.specs.Counts.{unseen}
@@ -28,7 +29,7 @@ use Rattle.telling.proofs.Repeating.{handed-repeat}
 -- handover is open, and then no scan has been counted since the swap.
 pub record Ready (map : List ℕ) (contacts : Contacts) (keys : Keys) (handover : Bool) (scans : List (List ℕ)) : Type 0 where
   pub long : length map ≡ 144
-  pub entries : allUpTo 104 map ≡ true
+  pub entries : allUpTo lastKey map ≡ true
   pub single : hasDouble map ≡ false
   pub places : Places keys
   pub outside : Outside (keys .held)
@@ -86,15 +87,15 @@ closing-settled d scans r =
         long = r .long;
         entries = r .entries;
         single = r .single;
-        places = handed-places (d .mode) 104 1 (d .keys) (d .types) (r .places);
-        outside = handed-outside (d .mode) (d .types) 104 1 (d .keys) (r .outside);
-        repeats = handed-repeat (d .mode) 104 1 (d .keys) (d .types) (r .repeats);
+        places = handed-places (d .mode) lastKey 1 (d .keys) (d .types) (r .places);
+        outside = handed-outside (d .mode) (d .types) lastKey 1 (d .keys) (r .outside);
+        repeats = handed-repeat (d .mode) lastKey 1 (d .keys) (d .types) (r .repeats);
         seen = r .seen;
         agree = λ done. none-agree (d .map) (d .contacts .closed) (h .keys .held)
             (handed-all (d .mode) (d .types) (d .keys) (r .outside) done)
             (all-open (d .contacts) scans (r .seen) (r .anew opened));
         anew = λ unfinished. r .anew opened;
       };
-      waits = handed-waits (d .mode) (d .types) 104 1 (d .keys);
+      waits = handed-waits (d .mode) (d .types) lastKey 1 (d .keys);
     })
     (λ shut. shut-settled d scans shut r)

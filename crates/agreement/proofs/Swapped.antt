@@ -9,6 +9,7 @@ use lib.Dec.{eqb}
 use lib.ListN.{length}
 use Rattle.basics.specs.Choice.{pick}
 use Rattle.basics.specs.Lists.{allUpTo}
+use Rattle.keys.specs.Keys.{lastKey}
 use Rattle.contacts.specs.Counts.{unseen}
 use Rattle.dock.specs.declared.Answered.{Answered}
 use Rattle.dock.specs.declared.Answer.the-variants.{Accepted, MapLength, MapEntry, MapDouble}
@@ -27,7 +28,7 @@ use Rattle.agreement.proofs.Ready.{IsReady, Settled, closing-settled}
 
 module _ (d : Dock) (scans : List (List ℕ)) (s : Settled d scans) (map : List ℕ) where
   -- The map is replaced, and if no handover is open, one is opened and the contact history dropped.
-  module _ (long : length map ≡ 144) (entries : allUpTo 104 map ≡ true) (single : hasDouble map ≡ false) where
+  module _ (long : length map ≡ 144) (entries : allUpTo lastKey map ≡ true) (single : hasDouble map ≡ false) where
     remapped-ready : IsReady (remapped d map) []
     unfolding remapped opened countedAll
     remapped-ready =
@@ -67,18 +68,18 @@ module _ (d : Dock) (scans : List (List ℕ)) (s : Settled d scans) (map : List 
       taken : Answered
       taken = answered Accepted (swapped d map)
 
-      doubles-last : length map ≡ 144 → allUpTo 104 map ≡ true → (b : Bool) → hasDouble map ≡ b → Fine (pick b (answered MapDouble d) taken)
+      doubles-last : length map ≡ 144 → allUpTo lastKey map ≡ true → (b : Bool) → hasDouble map ≡ b → Fine (pick b (answered MapDouble d) taken)
       doubles-last l e true h = s
       doubles-last l e false h = closing-settled (remapped d map) [] (remapped-ready l e h)
 
-      entries-next : length map ≡ 144 → (b : Bool) → allUpTo 104 map ≡ b
+      entries-next : length map ≡ 144 → (b : Bool) → allUpTo lastKey map ≡ b
           → Fine (pick b (pick (hasDouble map) (answered MapDouble d) taken) (answered MapEntry d))
       entries-next l true h = doubles-last l h (hasDouble map) refl
       entries-next l false h = s
 
       length-first : (b : Bool) → eqb (length map) 144 ≡ b
-          → Fine (pick b (pick (allUpTo 104 map) (pick (hasDouble map) (answered MapDouble d) taken) (answered MapEntry d)) (answered MapLength d))
-      length-first true h = entries-next (eqb-true (length map) 144 h) (allUpTo 104 map) refl
+          → Fine (pick b (pick (allUpTo lastKey map) (pick (hasDouble map) (answered MapDouble d) taken) (answered MapEntry d)) (answered MapLength d))
+      length-first true h = entries-next (eqb-true (length map) 144 h) (allUpTo lastKey map) refl
       length-first false h = s
 
 -- The terminal: a swap by itself queues nothing and releases no key.
@@ -96,7 +97,7 @@ module _ (d : Dock) (t : Terminal) (map : List ℕ) (f : Follows d t) where
       let Fine : Answered → Type 0 = λ (a : Answered). Follows (a .dock) t in
       rw range
       (picked Fine (eqb (length map) 144) _ _
-      (picked Fine (allUpTo 104 map) _ _
+      (picked Fine (allUpTo lastKey map) _ _
       (picked Fine (hasDouble map) (answered MapDouble d) (answered Accepted (swapped d map)) f (closing-follows (remapped d map) t remapped-follows))
       f)
       f)

@@ -17,6 +17,7 @@ use Rattle.basics.specs.Lists.{allUpTo}
 use Rattle.basics.proofs.Flags.{left-of-both, right-of-both}
 use Rattle.basics.proofs.Zeros.{only-zeros}
 use Rattle.basics.proofs.Cases.{never}
+use Rattle.keys.specs.Keys.{lastKey}
 use Rattle.contacts.specs.declared.Contacts.{Contacts}
 use Rattle.contacts.specs.Scans.{contact}
 use Rattle.contacts.proofs.Pointwise.{contact-small}
@@ -101,7 +102,7 @@ module _ (earlier calls : List Call) (begins : mayBegin (afterCalls woken earlie
   end : World
   end = afterCalls start calls
 
-  pub third-demand : (key : ℕ) → 1 ≤ key → key ≤ 104 → (key ≡ 101 → ⊥)
+  pub third-demand : (key : ℕ) → 1 ≤ key → key ≤ lastKey → (key ≡ 101 → ⊥)
       → isDown (afterCalls (beginning (afterCalls woken earlier)) calls .terminal) key
       ≡ scansSay (afterCalls (beginning (afterCalls woken earlier)) calls) key
   unfolding start end

@@ -1,11 +1,16 @@
 // The bench (docs/RULES.md, section 12): lines from standard input go to a dock, and what it answers goes to standard output.
 // What a line does is proved in the crate lines; here text is read, cut into lines, and written. The dock's record is in range
 // at power-on, and every line leaves it in range: that is proved, so nothing looks at it again.
+use contacts::Columns;
+use contacts::Counts;
 use libc::STDIN_FILENO;
 use libc::STDOUT_FILENO;
 use lines::Printed;
 use record::Dock;
+use record::Held;
+use record::Map;
 use record::Rest;
+use record::Types;
 ghost use mathlib.Core.Path.{_≡_};
 ghost use mathlib.Core.Bool.{true};
 ghost use Prim.Native.Nat.{_≤_, _+_};
@@ -59,11 +64,11 @@ fn put(out: &mut [u8], at: usize, printed: Printed) -> usize
 
 // Runs the whole lines of a text in place. Each takes at least its newline and prints at most four characters, so the output has room.
 fn run_in_place(
-    map: &mut [u8; 144],
-    closed: &mut [u8; 18],
-    counts: &mut [u8; 144],
-    held: &mut [u8; 144],
-    types: &mut [u8; 105],
+    map: &mut Map,
+    closed: &mut Columns,
+    counts: &mut Counts,
+    held: &mut Held,
+    types: &mut Types,
     r: Rest,
     text: &[u8],
     out: &mut [u8],

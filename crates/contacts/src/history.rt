@@ -1,4 +1,6 @@
 // Contact history: a contact turns at the third counted scan in a row that shows it otherwise.
+use crate::Columns;
+use crate::Counts;
 ghost use mathlib.Core.Path.{_≡_};
 ghost use Prim.Native.Nat.{_*_, _<_};
 ghost use lib.ListN.{length};
@@ -30,7 +32,7 @@ fn turning(otherwise: u8, count: u8) -> u8
 }
 
 // A column that shows what counts: no row of scans is under way in it any more.
-fn still(counts: &mut [u8; 144], column: usize)
+fn still(counts: &mut Counts, column: usize)
     requires { ⌜ column < 18 ⌝ }
     ensures { λ r. ⌜ now (counts .exit) ≡ renewed (λ row count. 0) (8 * column) 8 (now (counts .entry)) ⌝ }
 {
@@ -44,7 +46,7 @@ fn still(counts: &mut [u8; 144], column: usize)
 
 // A column that shows something else, contact by contact: the column as it then counts. Rows are left at their bits, so that the
 // compiler takes all eight at a time.
-fn stirred(counts: &mut [u8; 144], column: usize, seen: u8, closed: u8) -> u8
+fn stirred(counts: &mut Counts, column: usize, seen: u8, closed: u8) -> u8
     requires { ⌜ column < 18 ⌝ }
     ensures contacts { λ r. ⌜ r ≡ columnClosed column seen closed (now (counts .entry)) ⌝ }
     ensures counts { λ r. ⌜ now (counts .exit) ≡ columnCounts column seen closed (now (counts .entry)) ⌝ }
@@ -63,7 +65,7 @@ fn stirred(counts: &mut [u8; 144], column: usize, seen: u8, closed: u8) -> u8
 }
 
 // The scan shows what counts.
-fn shows(closed: &[u8; 18], scan: &[u8]) -> bool
+fn shows(closed: &Columns, scan: &[u8]) -> bool
     requires { ⌜ (length (now closed) ≡ 18) × (length (now scan) ≡ 18) ⌝ }
     ensures { λ r. ⌜ r ≡ same (now (scan .entry)) (now (closed .entry)) ⌝ }
 {
@@ -79,7 +81,7 @@ fn shows(closed: &[u8; 18], scan: &[u8]) -> bool
 }
 
 // No row of scans is under way.
-fn none_counted(counts: &[u8; 144]) -> bool
+fn none_counted(counts: &Counts) -> bool
     requires { ⌜ length (now counts) ≡ 144 ⌝ }
     ensures { λ r. ⌜ r ≡ allUpTo 0 (now (counts .entry)) ⌝ }
 {
@@ -95,7 +97,7 @@ fn none_counted(counts: &[u8; 144]) -> bool
 }
 
 // Both: a scan of an idle panel, or of keys that are held.
-pub fn at_rest(closed: &[u8; 18], counts: &[u8; 144], scan: &[u8]) -> bool
+pub fn at_rest(closed: &Columns, counts: &Counts, scan: &[u8]) -> bool
     requires { ⌜ (length (now closed) ≡ 18) × (length (now counts) ≡ 144) × (length (now scan) ≡ 18) ⌝ }
     ensures { λ r. ⌜ r ≡ atRest (contacts (now (closed .entry)) (now (counts .entry))) (now (scan .entry)) ⌝ }
 {
@@ -106,7 +108,7 @@ pub fn at_rest(closed: &[u8; 18], counts: &[u8; 144], scan: &[u8]) -> bool
 }
 
 // The contacts after a counted scan, in place.
-pub fn count(closed: &mut [u8; 18], counts: &mut [u8; 144], scan: &[u8])
+pub fn count(closed: &mut Columns, counts: &mut Counts, scan: &[u8])
     requires { ⌜ (length (now closed) ≡ 18) × (length (now counts) ≡ 144) × (length (now scan) ≡ 18) ⌝ }
     ensures { λ r. ⌜ contacts (now (closed .exit)) (now (counts .exit)) ≡ countedOf (contacts (now (closed .entry)) (now (counts .entry))) (now (scan .entry)) ⌝ }
 {

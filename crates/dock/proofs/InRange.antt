@@ -8,6 +8,7 @@ use lib.Dec.{eqb}
 use lib.ListN.{length}
 use Rattle.basics.specs.Lists.{allUpTo}
 use Rattle.basics.proofs.Cases.{by-cases, picked}
+use Rattle.keys.specs.Keys.{lastKey}
 use Rattle.contacts.specs.Phantom.{isPhantom}
 use Rattle.contacts.specs.Counts.{contacts, countedOf}
 use Rattle.frames.specs.declared.Unpacked.{Unpacked}
@@ -59,7 +60,7 @@ pub closing-in-range : (d : Dock) → inRange d ≡ true → inRange (closing d)
 unfolding closing
 closing-in-range d h =
     let left = handedOver (d .keys) (d .mode) (d .types) in
-    let good = handed-good (d .mode) 104 1 (d .keys) (d .types) (in-range-keys d h) in
+    let good = handed-good (d .mode) lastKey 1 (d .keys) (d .types) (in-range-keys d h) in
     let kept = in-range-with-keys d h (left .keys) good in
     picked InRange (d .handover) _ _ (in-range-with-handover (withKeys d (left .keys)) kept (left .unfinished)) h
 
@@ -156,21 +157,21 @@ read-in-range d h =
     h
 
 -- A swap.
-opened-in-range : (d : Dock) (map : List ℕ) → inRange d ≡ true → allUpTo 104 map ≡ true → inRange (opened d map) ≡ true
+opened-in-range : (d : Dock) (map : List ℕ) → inRange d ≡ true → allUpTo lastKey map ≡ true → inRange (opened d map) ≡ true
 unfolding opened
 opened-in-range d map h g =
     let keys = good-keys-with-repeat (d .keys) (in-range-keys d h) 0 0 (omega arith) (omega arith) in
     in-range (opened d map) g keys (in-range-mode d h) (in-range-replies d h) (in-range-waiting d h)
 
-pub remapped-in-range : (d : Dock) (map : List ℕ) → inRange d ≡ true → allUpTo 104 map ≡ true → inRange (remapped d map) ≡ true
+pub remapped-in-range : (d : Dock) (map : List ℕ) → inRange d ≡ true → allUpTo lastKey map ≡ true → inRange (remapped d map) ≡ true
 unfolding remapped
 remapped-in-range d map h g = picked InRange (d .handover) _ _ (in-range-with-map d h map g) (opened-in-range d map h g)
 
-pub swap-leaves-range : (d : Dock) (map : List ℕ) → inRange d ≡ true → allUpTo 104 map ≡ true → (next : Dock) → next ≡ remapped d map
+pub swap-leaves-range : (d : Dock) (map : List ℕ) → inRange d ≡ true → allUpTo lastKey map ≡ true → (next : Dock) → next ≡ remapped d map
     → inRange next ≡ true
 swap-leaves-range d map h g next e = rw e (remapped-in-range d map h g)
 
-swapped-in-range : (d : Dock) (map : List ℕ) → inRange d ≡ true → allUpTo 104 map ≡ true → inRange (swapped d map) ≡ true
+swapped-in-range : (d : Dock) (map : List ℕ) → inRange d ≡ true → allUpTo lastKey map ≡ true → inRange (swapped d map) ≡ true
 unfolding swapped
 swapped-in-range d map h g = closing-in-range _ (remapped-in-range d map h g)
 
@@ -179,7 +180,7 @@ unfolding swapOf
 swap-in-range d map h =
     picked Kept (inRange d) _ _
     (picked Kept (eqb (length map) 144) _ _
-    (by-cases Kept (allUpTo 104 map) _ _
+    (by-cases Kept (allUpTo lastKey map) _ _
     (λ g. picked Kept (hasDouble map) _ _ h (swapped-in-range d map h g))
     (λ g. h))
     h)

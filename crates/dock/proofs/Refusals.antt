@@ -8,6 +8,7 @@ use lib.Dec.{eqb}
 use lib.ListN.{length}
 use Rattle.basics.specs.Lists.{allUpTo}
 use Rattle.basics.proofs.Cases.{picked, never}
+use Rattle.keys.specs.Keys.{lastKey}
 use Rattle.frames.specs.declared.Unpacked.{Unpacked}
 use Rattle.frames.specs.declared.Unpacked.the-variants.{Byte, Broken, TooLarge}
 use Rattle.frames.specs.Frames.{unpackedOf}
@@ -44,7 +45,7 @@ module _ (d : Dock) where
   swap-refused map =
       picked Left (inRange d) _ _
       (picked Left (eqb (length map) 144) _ _
-      (picked Left (allUpTo 104 map) _ _
+      (picked Left (allUpTo lastKey map) _ _
       (picked Left (hasDouble map) _ _ (λ refused. refl) (accepted _))
       (λ refused. refl))
       (λ refused. refl))

@@ -7,6 +7,7 @@ use lib.ListN.{length}
 use Rattle.basics.specs.Choice.{between}
 use Rattle.basics.specs.Lists.{allUpTo}
 use Rattle.basics.proofs.Cases.{picked}
+use Rattle.keys.specs.Keys.{lastKey}
 use Rattle.contacts.specs.Phantom.{isPhantom}
 use Rattle.contacts.proofs.Pointwise.{closed-length, counts-length}
 use Rattle.frames.specs.declared.Unpacked.{Unpacked}
@@ -86,7 +87,7 @@ unfolding swapOf
 swap-sizes d map s =
     picked After (inRange d) _ _
     (picked After (eqb (length map) 144) _ _
-    (picked After (allUpTo 104 map) _ _ (picked After (hasDouble map) _ _ s (swapped-sizes d map s)) s)
+    (picked After (allUpTo lastKey map) _ _ (picked After (hasDouble map) _ _ s (swapped-sizes d map s)) s)
     s)
     s
 

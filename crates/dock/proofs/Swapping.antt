@@ -7,6 +7,7 @@ use borrow.Author.Tests.{eq-eqb, ne-eqb}
 use lib.ListN.{length}
 use Rattle.basics.specs.Choice.{pick}
 use Rattle.basics.specs.Lists.{allUpTo}
+use Rattle.keys.specs.Keys.{lastKey}
 use Rattle.maps.specs.Maps.{hasDouble}
 use Rattle.record.specs.declared.Dock.{Dock}
 use Rattle.record.specs.Parts.{withMap}
@@ -45,7 +46,7 @@ module _ (d : Dock) (map : List ℕ) where
     unfolding swapOf
     swap-wrong-length n = simp (g, ne-eqb (length map) 144 n)
 
-    module _ (l : length map ≡ 144) (copy : List ℕ) (c : copy ≡ map) (small : Bool) (s : small ≡ allUpTo 104 copy) where
+    module _ (l : length map ≡ 144) (copy : List ℕ) (c : copy ≡ map) (small : Bool) (s : small ≡ allUpTo lastKey copy) where
       long : length copy ≡ 144
       long = rw c l
 

@@ -6,6 +6,7 @@ use lib.Dec.{eqb}
 use lib.ListN.{length}
 use Rattle.basics.specs.Choice.{pick}
 use Rattle.basics.specs.Lists.{allUpTo}
+use Rattle.keys.specs.Keys.{lastKey}
 use Rattle.contacts.specs.Counts.{unseen}
 use Rattle.record.specs.declared.Dock.{Dock}
 use Rattle.record.specs.Parts.{withMap, withContacts, withKeys, withHandover, withRepeat}
@@ -33,7 +34,7 @@ unfoldable pub swapOf : Dock → List ℕ → Answered
 swapOf d map =
     pick (inRange d)
     (pick (eqb (length map) 144)
-    (pick (allUpTo 104 map)
+    (pick (allUpTo lastKey map)
     (pick (hasDouble map) (answered MapDouble d) (answered Accepted (swapped d map)))
     (answered MapEntry d))
     (answered MapLength d))

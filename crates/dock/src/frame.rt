@@ -2,10 +2,14 @@
 use crate::Answer;
 use crate::Done;
 use crate::closing::close_in_place;
+use contacts::Columns;
+use contacts::Counts;
 use frames::Unpacked;
 use host::reply;
 use host::take;
+use record::Held;
 use record::Rest;
+use record::Types;
 ghost use mathlib.Core.Path.{_≡_};
 ghost use mathlib.Core.Bool.{true};
 ghost use mathlib.Core.List.{List};
@@ -18,10 +22,10 @@ ghost use Rattle.dock.specs.Frame.{frameOf};
 
 // The frame call in place, of a record in its range, whatever the map is.
 pub fn frame_in_place(
-    closed: &mut [u8; 18],
-    counts: &mut [u8; 144],
-    held: &mut [u8; 144],
-    types: &mut [u8; 105],
+    closed: &mut Columns,
+    counts: &mut Counts,
+    held: &mut Held,
+    types: &mut Types,
     r: Rest,
     number: u32,
 ) -> Done

@@ -2,7 +2,9 @@
 use crate::Gave;
 use crate::Given;
 use crate::closing::close_in_place;
+use record::Held;
 use record::Rest;
+use record::Types;
 ghost use mathlib.Core.Path.{_≡_};
 ghost use mathlib.Core.Bool.{true};
 ghost use mathlib.Core.List.{List};
@@ -27,7 +29,7 @@ fn remember(r: Rest, byte: u8) -> Rest
 }
 
 // The oldest reply.
-fn take_reply(held: &mut [u8; 144], types: &[u8; 105], r: Rest) -> Gave
+fn take_reply(held: &mut Held, types: &Types, r: Rest) -> Gave
     requires { ⌜ (restInRange (now held) (now types) r ≡ true) × (1 ≤ r .replies .length) ⌝ }
     ensures { λ x. ⌜ ((map closed counts : List ℕ) → takenWith map closed counts (now (held .exit)) (now (types .entry)) x ≡ replyTaken (dockWith map closed counts (now (held .entry)) (now (types .entry)) r)) ⌝ }
 {
@@ -42,7 +44,7 @@ fn take_reply(held: &mut [u8; 144], types: &[u8; 105], r: Rest) -> Gave
 }
 
 // The oldest key byte.
-fn take_key_byte(held: &mut [u8; 144], types: &[u8; 105], r: Rest) -> Gave
+fn take_key_byte(held: &mut Held, types: &Types, r: Rest) -> Gave
     requires { ⌜ (restInRange (now held) (now types) r ≡ true) × (1 ≤ r .outgoing .queue .length) ⌝ }
     ensures { λ x. ⌜ ((map closed counts : List ℕ) → takenWith map closed counts (now (held .exit)) (now (types .entry)) x ≡ keyByteTaken (dockWith map closed counts (now (held .entry)) (now (types .entry)) r)) ⌝ }
 {
@@ -59,7 +61,7 @@ fn take_key_byte(held: &mut [u8; 144], types: &[u8; 105], r: Rest) -> Gave
 }
 
 // The read call in place, of a record in its range, whatever the map and the contacts are.
-pub fn read_in_place(held: &mut [u8; 144], types: &[u8; 105], r: Rest) -> Gave
+pub fn read_in_place(held: &mut Held, types: &Types, r: Rest) -> Gave
     requires { ⌜ restInRange (now held) (now types) r ≡ true ⌝ }
     ensures { λ x. ⌜ ((map closed counts : List ℕ) → inRange (dockWith map closed counts (now (held .entry)) (now (types .entry)) r) ≡ true → takenWith map closed counts (now (held .exit)) (now (types .entry)) x ≡ readOf (dockWith map closed counts (now (held .entry)) (now (types .entry)) r)) ⌝ }
 {

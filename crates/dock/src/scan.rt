@@ -2,7 +2,12 @@
 use crate::Answer;
 use crate::Done;
 use crate::closing::close_in_place;
+use contacts::Columns;
+use contacts::Counts;
+use record::Held;
+use record::Map;
 use record::Rest;
+use record::Types;
 ghost use mathlib.Core.Path.{_≡_};
 ghost use mathlib.Core.Bool.{true};
 ghost use mathlib.Core.List.{List};
@@ -23,11 +28,11 @@ fn is_listening(r: Rest) -> bool
 
 // A counted scan.
 fn count(
-    map: &[u8; 144],
-    closed: &mut [u8; 18],
-    counts: &mut [u8; 144],
-    held: &mut [u8; 144],
-    types: &[u8; 105],
+    map: &Map,
+    closed: &mut Columns,
+    counts: &mut Counts,
+    held: &mut Held,
+    types: &Types,
     r: Rest,
     scan: &[u8],
 ) -> Rest
@@ -46,11 +51,11 @@ fn count(
 
 // What a scan changes. One that shows what counts, while no row of scans is under way, changes nothing, phantom or not.
 fn change(
-    map: &[u8; 144],
-    closed: &mut [u8; 18],
-    counts: &mut [u8; 144],
-    held: &mut [u8; 144],
-    types: &[u8; 105],
+    map: &Map,
+    closed: &mut Columns,
+    counts: &mut Counts,
+    held: &mut Held,
+    types: &Types,
     r: Rest,
     scan: &[u8],
 ) -> Rest
@@ -67,7 +72,7 @@ fn change(
 }
 
 // The repeat, after the scan's changes.
-fn repeat(held: &[u8; 144], types: &[u8; 105], r: Rest) -> Rest
+fn repeat(held: &Held, types: &Types, r: Rest) -> Rest
     requires { ⌜ restInRange (now held) (now types) r ≡ true ⌝ }
     ensures { λ e. ⌜ HeldAfter repeating (now (held .entry)) (now (types .entry)) r (now (held .entry)) e ⌝ }
 {
@@ -84,11 +89,11 @@ fn repeat(held: &[u8; 144], types: &[u8; 105], r: Rest) -> Rest
 
 // A scan that is listened to: one scan less to the next repeat, then its changes, then the repeat.
 fn hear(
-    map: &[u8; 144],
-    closed: &mut [u8; 18],
-    counts: &mut [u8; 144],
-    held: &mut [u8; 144],
-    types: &[u8; 105],
+    map: &Map,
+    closed: &mut Columns,
+    counts: &mut Counts,
+    held: &mut Held,
+    types: &Types,
     r: Rest,
     scan: &[u8],
 ) -> Rest
@@ -104,11 +109,11 @@ fn hear(
 
 // The scan call in place, of a record in its range.
 pub fn scan_in_place(
-    map: &[u8; 144],
-    closed: &mut [u8; 18],
-    counts: &mut [u8; 144],
-    held: &mut [u8; 144],
-    types: &[u8; 105],
+    map: &Map,
+    closed: &mut Columns,
+    counts: &mut Counts,
+    held: &mut Held,
+    types: &Types,
     r: Rest,
     scan: &[u8],
 ) -> Done

@@ -2,9 +2,14 @@
 use crate::Answer;
 use crate::Done;
 use crate::closing::go_on;
+use contacts::Columns;
+use contacts::Counts;
 use maps::copied;
 use maps::has_double;
+use record::Held;
+use record::Map;
 use record::Rest;
+use record::Types;
 ghost use mathlib.Core.Path.{_≡_};
 ghost use mathlib.Core.Bool.{true};
 ghost use mathlib.Core.List.{List};
@@ -15,7 +20,7 @@ ghost use Rattle.dock.specs.Answers.{answeredWith};
 ghost use Rattle.dock.specs.Swap.{remapped, swapOf};
 
 // The first swap drops contact history and the repeating key, and a handover opens. While one is open nothing but the map is replaced.
-fn open_handover(closed: &mut [u8; 18], counts: &mut [u8; 144], r: Rest) -> Rest
+fn open_handover(closed: &mut Columns, counts: &mut Counts, r: Rest) -> Rest
     ensures { λ e. ⌜ ((map held types new : List ℕ) → dockWith new (now (closed .exit)) (now (counts .exit)) held types e ≡ remapped (dockWith map (now (closed .entry)) (now (counts .entry)) held types r) new) ⌝ }
 {
     if r.handover {
@@ -36,11 +41,11 @@ fn open_handover(closed: &mut [u8; 18], counts: &mut [u8; 144], r: Rest) -> Rest
 
 // The swap call in place, of a record in its range.
 pub fn swap_in_place(
-    map: &mut [u8; 144],
-    closed: &mut [u8; 18],
-    counts: &mut [u8; 144],
-    held: &mut [u8; 144],
-    types: &[u8; 105],
+    map: &mut Map,
+    closed: &mut Columns,
+    counts: &mut Counts,
+    held: &mut Held,
+    types: &Types,
     r: Rest,
     new: &[u8],
 ) -> Done
@@ -54,7 +59,7 @@ pub fn swap_in_place(
         };
     }
     let m = copied(new);
-    if !record::range::all_up_to(104, &m) {
+    if !record::range::all_up_to(keys::LAST_KEY, &m) {
         return Done {
             answer: Answer::MapEntry,
             rest: r,

@@ -8,6 +8,7 @@ use lib.ListN.{length}
 use borrow.Author.Tests.{lt-ltb, le-ltb}
 use Rattle.basics.specs.Choice.{both, between}
 use Rattle.basics.proofs.Tables.{both-left, both-right}
+use Rattle.keys.specs.Keys.{lastKey}
 use Rattle.encoder.specs.declared.Encoded.the-variants.{Written, BadChoice, ShortOutput}
 use Rattle.codes.specs.declared.Sequence.{Sequence}
 use Rattle.codes.specs.Sequences.{holding}
@@ -21,19 +22,19 @@ holding-written l out = rw (holding-bytes l, holding-length l)
 
 module _ (set key event type modifiers lock : ℕ) (a : Bool) (e : a ≡ allowed set key event type modifiers lock) where
   -- What is allowed fits a byte.
-  pub allowed-range : not a ≡ false → (set ≤ 3) × (key ≤ 104) × (type ≤ 3) × (modifiers ≤ 63)
+  pub allowed-range : not a ≡ false → (set ≤ 3) × (key ≤ lastKey) × (type ≤ 3) × (modifiers ≤ 63)
   unfolding allowed
   allowed-range p =
       let of-modifiers = both (leb modifiers 63) (leb lock 1) in
       let of-type = both (leb type 3) of-modifiers in
       let of-event = both (leb event 2) of-type in
-      let of-key = both (between 1 104 key) of-event in
+      let of-key = both (between 1 lastKey key) of-event in
       let s : T (both (between 1 3 set) of-key) = rw (passed e p) tt in
       let k = both-right (between 1 3 set) of-key s in
-      let t = both-right (leb event 2) of-type (both-right (between 1 104 key) of-event k) in
+      let t = both-right (leb event 2) of-type (both-right (between 1 lastKey key) of-event k) in
       let m = both-right (leb type 3) of-modifiers t in (
         leb→le set 3 (both-right (leb 1 set) (leb set 3) (both-left (between 1 3 set) of-key s)),
-        leb→le key 104 (both-right (leb 1 key) (leb key 104) (both-left (between 1 104 key) of-event k)),
+        leb→le key lastKey (both-right (leb 1 key) (leb key lastKey) (both-left (between 1 lastKey key) of-event k)),
         leb→le type 3 (both-left (leb type 3) of-modifiers t),
         leb→le modifiers 63 (both-left (leb modifiers 63) (leb lock 1) m),
       )

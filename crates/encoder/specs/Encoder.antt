@@ -6,6 +6,7 @@ use mathlib.Core.List.{List, _++_}
 use lib.Dec.{eqb, ltb, leb}
 use lib.ListN.{length, take, drop}
 use Rattle.basics.specs.Choice.{pick, both, between}
+use Rattle.keys.specs.Keys.{lastKey}
 use Rattle.codes.specs.declared.Action.{Action}
 use Rattle.codes.specs.declared.Action.the-variants.{Press, Release, Repeat}
 use Rattle.codes.specs.declared.Sequence.{Sequence}
@@ -21,7 +22,7 @@ actionOf event = pick (eqb event 0) Press (pick (eqb event 1) Release Repeat)
 unfoldable pub allowed : ℕ → ℕ → ℕ → ℕ → ℕ → ℕ → Bool
 allowed set key event type modifiers lock =
     both (between 1 3 set)
-    (both (between 1 104 key)
+    (both (between 1 lastKey key)
     (both (leb event 2)
     (both (leb type 3)
     (both (leb modifiers 63) (leb lock 1)))))

@@ -18,6 +18,9 @@ pub enum Encoded {
     ShortOutput,
 }
 
+// Keys are numbered from 1 to this.
+const LAST_KEY: u32 = keys::LAST_KEY as u32;
+
 // A number from low to high, both included.
 fn is_between(low: u32, high: u32, n: u32) -> bool
     ensures { λ r. ⌜ r ≡ between low high n ⌝ }
@@ -29,7 +32,7 @@ fn is_between(low: u32, high: u32, n: u32) -> bool
 fn is_allowed(set: u32, key: u32, event: u32, kind: u32, modifiers: u32, lock: u32) -> bool
     ensures { λ r. ⌜ r ≡ allowed set key event kind modifiers lock ⌝ }
 {
-    let known = is_between(1, 3, set) & is_between(1, 104, key);
+    let known = is_between(1, 3, set) & is_between(1, LAST_KEY, key);
     known & (event <= 2) & (kind <= 3) & (modifiers <= 63) & (lock <= 1)
 }
 

@@ -2,7 +2,7 @@
 use mathlib.Core.Path.{_≡_, refl}
 use mathlib.Core.Bool.{Bool, true, false}
 use mathlib.Core.List.{List, [], _∷_}
-use Prim.Native.Nat.{ℕ, _-_, _≤_}
+use Prim.Native.Nat.{ℕ, suc, _-_, _≤_}
 use native.Mathlib.Omega.{arith}
 use borrow.Author.Tests.{leb-true}
 use lib.Dec.{eqb, leb}
@@ -10,6 +10,7 @@ use lib.ListN.{length, replicate}
 use Rattle.basics.specs.Choice.{pick, both, either, between}
 use Rattle.basics.proofs.Cases.{by-cases, picked, either-true}
 use Rattle.basics.proofs.Flags.{left-of-both, right-of-both}
+use Rattle.keys.specs.Keys.{lastKey}
 use Rattle.lookup.specs.Lookup.{keyWith}
 use Rattle.queue.specs.Queues.{queueOf}
 use Rattle.queue.specs.Replies.{repliesOf}
@@ -90,7 +91,7 @@ module _ (d : Dock) (h : inRange d ≡ true) where
       in-range-with-types (withRate defaultRate (withSet 2 quiet)) (rate-in-range (withSet 2 quiet) set defaultRate (omega arith)) defaultTypes
 
   typed-in-range : (kind : ℕ) → inRange (typed kind d) ≡ true
-  typed-in-range kind = in-range-with-types (cleared d) (cleared-in-range d h) (replicate 105 kind)
+  typed-in-range kind = in-range-with-types (cleared d) (cleared-in-range d h) (replicate (suc lastKey) kind)
 
   -- A command, row by row.
   obeyed-in-range : (byte : ℕ) → inRange (obeyed byte d) ≡ true
@@ -116,7 +117,7 @@ module _ (d : Dock) (h : inRange d ≡ true) where
   valued-in-range command value r = go (keyWith 3 value) (eqb command 0xed) (eqb command 0xf0) (eqb command 0xf3) r
     where
       go : (key : ℕ) (a b c : Bool)
-          → pick a (leb value 7) (pick b (between 1 3 value) (pick c (leb value 127) (both (between 0xfb 0xfd command) (between 1 104 key)))) ≡ true
+          → pick a (leb value 7) (pick b (between 1 3 value) (pick c (leb value 127) (both (between 0xfb 0xfd command) (between 1 lastKey key)))) ≡ true
           → inRange (pick a (withIndicators value d) (pick b (withSet value d) (pick c (withRate value d) (withType key (command - 0xfb) d)))) ≡ true
       go key true b c e = indicators-in-range d h value (leb-true value 7 e)
       go key false true c e =

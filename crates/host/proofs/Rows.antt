@@ -8,6 +8,7 @@ use borrow.Author.Tests.{leb-true, le-leb, lt-leb, ne-eqb}
 use lib.Dec.{eqb}
 use Rattle.basics.specs.Choice.{pick, both, between}
 use Rattle.basics.proofs.Flags.{left-of-both, right-of-both}
+use Rattle.keys.specs.Keys.{lastKey}
 use Rattle.lookup.specs.Lookup.{keyWith}
 use Rattle.queue.specs.declared.replies.Replies.{Replies}
 use Rattle.queue.specs.Replies.{repliesOf}
@@ -75,11 +76,11 @@ module _ (byte : ℕ) (d new : Dock) (replies : Replies) (e : new ≡ obeyed byt
 -- A value.
 module _ (command value : ℕ) where
   module _ (a : command ≡ 0xed → ⊥) (b : command ≡ 0xf0 → ⊥) (c : command ≡ 0xf3 → ⊥) where
-    key-type-row : rightValue command value ≡ both (between 0xfb 0xfd command) (between 1 104 (keyWith 3 value))
+    key-type-row : rightValue command value ≡ both (between 0xfb 0xfd command) (between 1 lastKey (keyWith 3 value))
     unfolding rightValue
     key-type-row = rw (ne-eqb command 0xed a, ne-eqb command 0xf0 b, ne-eqb command 0xf3 c)
 
-    pub right-code : 0xfb ≤ command → command ≤ 0xfd → between 1 104 (keyWith 3 value) ≡ rightValue command value
+    pub right-code : 0xfb ≤ command → command ≤ 0xfd → between 1 lastKey (keyWith 3 value) ≡ rightValue command value
     right-code h k = rw (key-type-row, le-leb 0xfb command h, le-leb command 0xfd k)
 
     pub right-none-below : command < 0xfb → false ≡ rightValue command value
@@ -93,7 +94,7 @@ module _ (command value : ℕ) where
     valued-type d key e = rw (ne-eqb command 0xed a, ne-eqb command 0xf0 b, ne-eqb command 0xf3 c, e)
 
     module _ (r : rightValue command value ≡ true) where
-      right-row : both (between 0xfb 0xfd command) (between 1 104 (keyWith 3 value)) ≡ true
+      right-row : both (between 0xfb 0xfd command) (between 1 lastKey (keyWith 3 value)) ≡ true
       right-row = sym key-type-row ∙ r
 
       pub right-command : (0xfb ≤ command) × (command ≤ 0xfd)
@@ -101,10 +102,10 @@ module _ (command value : ℕ) where
           let h = right-row in
           (leb-true 0xfb command (search (left-of-both, right-of-both)), leb-true command 0xfd (search (left-of-both, right-of-both)))
 
-      pub right-key : keyWith 3 value ≤ 104
+      pub right-key : keyWith 3 value ≤ lastKey
       right-key =
           let h = right-row in
-          leb-true (keyWith 3 value) 104 (search (left-of-both, right-of-both))
+          leb-true (keyWith 3 value) lastKey (search (left-of-both, right-of-both))
 
 -- A byte below ED.
 module _ (byte : ℕ) (d : Dock) (b : Bool) (e : b ≡ rightValue (d .waiting) byte) where

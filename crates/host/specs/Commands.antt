@@ -1,10 +1,11 @@
 -- What the host's bytes do (docs/RULES.md, section 11). Assumes nothing.
-use Prim.Native.Nat.{ℕ, _-_}
+use Prim.Native.Nat.{ℕ, suc, _-_}
 use mathlib.Core.Bool.{Bool, true, false}
 use mathlib.Core.List.{List, [], _∷_}
 use lib.Dec.{eqb, leb}
 use lib.ListN.{replicate, set}
 use Rattle.basics.specs.Choice.{pick, both, either, between}
+use Rattle.keys.specs.Keys.{lastKey}
 use Rattle.lookup.specs.Lookup.{keyWith}
 use Rattle.queue.specs.Queues.{queueOf}
 use Rattle.queue.specs.Replies.{repliesOf}
@@ -58,7 +59,7 @@ disabled d = withScanning (defaulted d) false
 
 -- F7 to FA: nothing queued, and every key has the same type.
 abbrev pub typed : ℕ → Dock → Dock
-typed kind d = withTypes (cleared d) (replicate 105 kind)
+typed kind d = withTypes (cleared d) (replicate (suc lastKey) kind)
 
 -- FF: as at power-on, but for the map. The replies are replaced when the command is answered.
 abbrev pub restarted : Dock → Dock
@@ -95,7 +96,7 @@ rightValue command value =
     pick (eqb command 0xed) (leb value 7)
     (pick (eqb command 0xf0) (between 1 3 value)
     (pick (eqb command 0xf3) (leb value 127)
-    (both (between 0xfb 0xfd command) (between 1 104 (keyWith 3 value)))))
+    (both (between 0xfb 0xfd command) (between 1 lastKey (keyWith 3 value)))))
 
 -- What the value does.
 unfoldable pub valued : ℕ → ℕ → Dock → Dock

@@ -1,6 +1,10 @@
 // What each command does at once. The arrays are lent where a command changes them, and the rest of the record is passed.
 use crate::answers::reply_to;
+use contacts::Columns;
+use contacts::Counts;
+use record::Held;
 use record::Rest;
+use record::Types;
 use record::power::DEFAULT_RATE;
 ghost use Rattle.record.specs.Apart.{RestAfter, TypesAfter, ArraysAfter};
 ghost use Rattle.host.specs.Commands.{cleared, quietened, readied, enabled, defaulted, disabled, typed, restarted, obeyed, commanded};
@@ -50,7 +54,7 @@ fn enable(r: Rest) -> Rest
 }
 
 // F6: nothing queued, nothing repeating, set 2, default rate and types.
-fn set_default(types: &mut [u8; 105], r: Rest) -> Rest
+fn set_default(types: &mut Types, r: Rest) -> Rest
     ensures { λ e. ⌜ TypesAfter defaulted (now (types .entry)) r (now (types .exit)) e ⌝ }
 {
     let mut m = r.mode;
@@ -64,7 +68,7 @@ fn set_default(types: &mut [u8; 105], r: Rest) -> Rest
 }
 
 // F5: the same, and scanning off.
-fn disable(types: &mut [u8; 105], r: Rest) -> Rest
+fn disable(types: &mut Types, r: Rest) -> Rest
     ensures { λ e. ⌜ TypesAfter disabled (now (types .entry)) r (now (types .exit)) e ⌝ }
 {
     let mut off = set_default(types, r);
@@ -73,20 +77,20 @@ fn disable(types: &mut [u8; 105], r: Rest) -> Rest
 }
 
 // F7 to FA: nothing queued, and every key of one type.
-fn set_all_types(types: &mut [u8; 105], r: Rest, kind: u8) -> Rest
+fn set_all_types(types: &mut Types, r: Rest, kind: u8) -> Rest
     ensures { λ e. ⌜ TypesAfter (typed kind) (now (types .entry)) r (now (types .exit)) e ⌝ }
 {
-    let all = [kind; 105];
+    let all = [kind; keys::PLACES];
     *types = all;
     clear(r)
 }
 
 // FF: as at power-on, but for the map. The replies are replaced when the command is answered.
 fn reset(
-    closed: &mut [u8; 18],
-    counts: &mut [u8; 144],
-    held: &mut [u8; 144],
-    types: &mut [u8; 105],
+    closed: &mut Columns,
+    counts: &mut Counts,
+    held: &mut Held,
+    types: &mut Types,
     r: Rest,
 ) -> Rest
     ensures { λ e. ⌜ ArraysAfter restarted
@@ -106,10 +110,10 @@ fn reset(
 
 // What a command does at once. FB to FD clear, and give the type with their value.
 fn obey(
-    closed: &mut [u8; 18],
-    counts: &mut [u8; 144],
-    held: &mut [u8; 144],
-    types: &mut [u8; 105],
+    closed: &mut Columns,
+    counts: &mut Counts,
+    held: &mut Held,
+    types: &mut Types,
     r: Rest,
     byte: u8,
 ) -> Rest
@@ -131,10 +135,10 @@ fn obey(
 
 // A command: it is obeyed and answered, and waits if it takes a value.
 pub fn command(
-    closed: &mut [u8; 18],
-    counts: &mut [u8; 144],
-    held: &mut [u8; 144],
-    types: &mut [u8; 105],
+    closed: &mut Columns,
+    counts: &mut Counts,
+    held: &mut Held,
+    types: &mut Types,
     r: Rest,
     byte: u8,
 ) -> Rest

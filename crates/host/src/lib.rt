@@ -1,5 +1,9 @@
 // What the host's bytes do (docs/RULES.md, section 11). In place: the arrays are lent, and only the rest of the record is passed.
+use contacts::Columns;
+use contacts::Counts;
+use record::Held;
 use record::Rest;
+use record::Types;
 ghost use mathlib.Core.List.{[], _∷_};
 ghost use Rattle.record.specs.Apart.{RestAfter, ArraysAfter};
 ghost use Rattle.host.specs.Commands.{replying, tookByte};
@@ -19,10 +23,10 @@ pub fn reply(r: Rest, byte: u8) -> Rest
 
 // A byte from the host: FE has the last byte sent again, ED to FF are commands, and a byte below them is a value.
 pub fn take(
-    closed: &mut [u8; 18],
-    counts: &mut [u8; 144],
-    held: &mut [u8; 144],
-    types: &mut [u8; 105],
+    closed: &mut Columns,
+    counts: &mut Counts,
+    held: &mut Held,
+    types: &mut Types,
     r: Rest,
     byte: u8,
 ) -> Rest

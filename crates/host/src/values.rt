@@ -1,6 +1,7 @@
 // The values that commands wait for.
 use crate::reply;
 use record::Rest;
+use record::Types;
 ghost use mathlib.Core.Path.{_≡_};
 ghost use mathlib.Core.Bool.{true};
 ghost use Rattle.record.specs.Apart.{TypesAfter};
@@ -16,14 +17,14 @@ fn is_right(command: u8, value: u8) -> bool
         0xf3 => value <= 127,
         0xfb..=0xfd => {
             let key = lookup::in_set3(value);
-            (1 <= key) & (key <= 104)
+            (1 <= key) & (key <= keys::LAST_KEY)
         }
         _ => false,
     }
 }
 
 // What such a value does. The types are lent.
-fn apply(types: &mut [u8; 105], r: Rest, command: u8, value: u8) -> Rest
+fn apply(types: &mut Types, r: Rest, command: u8, value: u8) -> Rest
     requires { ⌜ rightValue command value ≡ true ⌝ }
     ensures { λ e. ⌜ TypesAfter (valued command value) (now (types .entry)) r (now (types .exit)) e ⌝ }
 {
@@ -50,7 +51,7 @@ fn apply(types: &mut [u8; 105], r: Rest, command: u8, value: u8) -> Rest
 }
 
 // A byte below ED: the value of the command that waits, if it is right for it.
-pub fn take_value(types: &mut [u8; 105], r: Rest, byte: u8) -> Rest
+pub fn take_value(types: &mut Types, r: Rest, byte: u8) -> Rest
     ensures { λ e. ⌜ TypesAfter (tookValue byte) (now (types .entry)) r (now (types .exit)) e ⌝ }
 {
     let command = r.waiting;

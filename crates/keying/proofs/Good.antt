@@ -10,7 +10,7 @@ use Rattle.basics.specs.Lists.{allUpTo}
 use Rattle.basics.proofs.Cases.{picked}
 use Rattle.codes.specs.declared.Action.the-variants.{Press, Release, Repeat}
 use Rattle.codes.specs.Codes.{mayRepeat}
-use Rattle.keys.specs.Keys.{markOf}
+use Rattle.keys.specs.Keys.{markOf, lastKey}
 use Rattle.queue.specs.declared.Queue.{Queue}
 use Rattle.queue.specs.Queues.{tidy}
 use Rattle.queue.proofs.Meaning.{tidy-short, tidy-queueOf}
@@ -60,27 +60,27 @@ module _ (m : Mode) where
   released-good k type key g =
       good-keys _
       (queued-tidy (k .queue) m (sends k m type key Release) (good-keys-queue k g))
-      (picked (λ (n : ℕ). n ≤ 104) (eqb (k .repeating) key) 0 (k .repeating) (omega arith) (good-keys-repeating k g))
+      (picked (λ (n : ℕ). n ≤ lastKey) (eqb (k .repeating) key) 0 (k .repeating) (omega arith) (good-keys-repeating k g))
       (picked (λ (n : ℕ). n ≤ 240) (eqb (k .repeating) key) 0 (k .clock) (omega arith) (good-keys-clock k g))
 
   pub handed-good : (n key : ℕ) (k : Keys) (types : List ℕ) → goodKeys k ≡ true → goodKeys (handedFrom n key k m types .keys) ≡ true
   handed-good = handed-keeps InRange m released-good
 
   module _ (h : goodMode m ≡ true) where
-    pub pressed-good : (k : Keys) (type key : ℕ) → key ≤ 104 → goodKeys k ≡ true → goodKeys (pressed k m type key) ≡ true
+    pub pressed-good : (k : Keys) (type key : ℕ) → key ≤ lastKey → goodKeys k ≡ true → goodKeys (pressed k m type key) ≡ true
     unfolding pressed
     pressed-good k type key l g =
         let may = mayRepeat (m .set) key type in
         good-keys _
         (queued-tidy (k .queue) m (sends k m type key Press) (good-keys-queue k g))
-        (picked (λ (n : ℕ). n ≤ 104) may key 0 l (omega arith))
+        (picked (λ (n : ℕ). n ≤ lastKey) may key 0 l (omega arith))
         (picked (λ (n : ℕ). n ≤ 240) may (delayOf (m .rate)) 0 (delay-small (m .rate) (good-mode-rate m h)) (omega arith))
 
     module _ (types : List ℕ) where
-      pub moved-good : (key closed : ℕ) → key ≤ 104 → (k : Keys) → goodKeys k ≡ true → goodKeys (moved k m types key closed) ≡ true
+      pub moved-good : (key closed : ℕ) → key ≤ lastKey → (k : Keys) → goodKeys k ≡ true → goodKeys (moved k m types key closed) ≡ true
       moved-good = moved-keeps InRange m released-good pressed-good types
 
-      module _ (map : List ℕ) (a : allUpTo 104 map ≡ true) where
+      module _ (map : List ℕ) (a : allUpTo lastKey map ≡ true) where
         pub turns-good : (n : ℕ) (was is : List ℕ) (k : Keys) → goodKeys k ≡ true → goodKeys (turnsTo n m types map was is k) ≡ true
         turns-good = turns-keep InRange m released-good pressed-good types map a
 

@@ -7,6 +7,7 @@ use native.Mathlib.Numerals.{add-one}
 use native.Mathlib.Omega.{arith}
 use borrow.Author.Tests.{eq-eqb, ne-eqb}
 use lib.ListN.{getD, length}
+use Rattle.keys.specs.Keys.{lastKey}
 use Rattle.codes.specs.declared.Action.the-variants.{Release}
 use Rattle.codes.specs.declared.Sequence.{Sequence}
 use Rattle.codes.specs.Sequences.{holding}
@@ -45,32 +46,32 @@ module _ (m : Mode) (types : List ℕ) (all : Keys) where
   -- The keys below `key` are done with, and those from it on are still to come.
   pub record Going (key : ℕ) (k : Keys) : Type 0 where
     pub good : goodKeys k ≡ true
-    pub rest : handedFrom (105 - key) key k m types ≡ handedOver all m types
+    pub rest : handedFrom (suc lastKey - key) key k m types ≡ handedOver all m types
 
   pub begins : goodKeys all ≡ true → Going 1 all
   begins g = record { good = g; rest = refl }
 
   module _ (key : ℕ) (k : Keys) (going : Going key k) where
-    pub ends : 104 < key → key ≤ 105 → handed k false ≡ handedOver all m types
+    pub ends : lastKey < key → key ≤ suc lastKey → handed k false ≡ handedOver all m types
     unfolding handedFrom
     ends a b =
-        let none : 105 - key ≡ 0 = omega arith in
+        let none : suc lastKey - key ≡ 0 = omega arith in
         rw none at (going .rest)
 
-    module _ (h : key ≤ 104) where
-      here : handedFrom (suc (104 - key)) key k m types ≡ handedOver all m types
+    module _ (h : key ≤ lastKey) where
+      here : handedFrom (suc (lastKey - key)) key k m types ≡ handedOver all m types
       here =
-          let more : 105 - key ≡ suc (104 - key) = omega arith in
+          let more : suc lastKey - key ≡ suc (lastKey - key) = omega arith in
           rw more at (going .rest)
 
-      next : (e : Keys) → handedFrom (suc (104 - key)) key k m types ≡ handedFrom (104 - key) (suc key) e m types
-          → handedFrom (105 - (key + 1)) (key + 1) e m types ≡ handedOver all m types
+      next : (e : Keys) → handedFrom (suc (lastKey - key)) key k m types ≡ handedFrom (lastKey - key) (suc key) e m types
+          → handedFrom (suc lastKey - (key + 1)) (key + 1) e m types ≡ handedOver all m types
       next e step =
-          let less : 105 - (key + 1) ≡ 104 - key = omega arith in
+          let less : suc lastKey - (key + 1) ≡ lastKey - key = omega arith in
           rw (less, add-one) (sym step ∙ here)
 
       pub passes : (e : Keys) → getD (k .held) key 0 ≡ 0 → e ≡ k → Going (key + 1) e
-      passes e z f = rw f (record { good = going .good; rest = next k (key-passed m types (104 - key) key k z) })
+      passes e z f = rw f (record { good = going .good; rest = next k (key-passed m types (lastKey - key) key k z) })
 
       module _ (n : getD (k .held) key 0 ≡ 0 → ⊥) (s : Sequence) (b : Bool)
           (i : s ≡ holding (sends k m (getD types key 0) key Release)) (j : b ≡ hasRoom (waiting (k .queue)) (s .length)) where
@@ -78,12 +79,12 @@ module _ (m : Mode) (types : List ℕ) (all : Keys) where
         can = j ∙ ap (hasRoom (waiting (k .queue))) (sequence-length k m (getD types key 0) key Release s i)
 
         pub waits : b ≡ false → handed k true ≡ handedOver all m types
-        waits f = sym (key-waits m types (104 - key) key k n (sym can ∙ f)) ∙ here
+        waits f = sym (key-waits m types (lastKey - key) key k n (sym can ∙ f)) ∙ here
 
         pub leaves : b ≡ true → (e : Keys) → e ≡ releasedWith k m key (contents s) → Going (key + 1) e
         leaves t e f =
             rw (f, released-by-its-bytes k m (getD types key 0) key s i)
             (record {
               good = released-good m k (getD types key 0) key (going .good);
-              rest = next (released k m (getD types key 0) key) (key-leaves m types (104 - key) key k n (sym can ∙ t));
+              rest = next (released k m (getD types key 0) key) (key-leaves m types (lastKey - key) key k n (sym can ∙ t));
             })

@@ -9,7 +9,7 @@ use Rattle.basics.specs.Lists.{allUpTo}
 use Rattle.basics.proofs.Cases.{picked}
 use Rattle.codes.specs.declared.Action.the-variants.{Press, Release, Repeat}
 use Rattle.codes.specs.Codes.{mayRepeat}
-use Rattle.keys.specs.Keys.{markOf}
+use Rattle.keys.specs.Keys.{markOf, lastKey}
 use Rattle.queue.specs.declared.Queue.{Queue}
 use Rattle.queue.specs.Queues.{waiting}
 use Rattle.queue.proofs.Meaning.{places-queueOf}
@@ -43,11 +43,11 @@ module _ (m : Mode) where
   unfolding released releasedWith
   released-bytes k type key e = queued-places (k .queue) m (sends k m type key Release) e
 
-  pub moved-bytes : (types : List ℕ) (key closed : ℕ) → key ≤ 104 → (k : Keys) → length (k .queue .bytes) ≡ 16
+  pub moved-bytes : (types : List ℕ) (key closed : ℕ) → key ≤ lastKey → (k : Keys) → length (k .queue .bytes) ≡ 16
       → length (moved k m types key closed .queue .bytes) ≡ 16
   moved-bytes = moved-keeps (λ (k : Keys). length (k .queue .bytes) ≡ 16) m released-bytes (λ k type key h e. pressed-bytes k type key e)
 
-  pub turns-bytes : (types map : List ℕ) → allUpTo 104 map ≡ true → (n : ℕ) (was is : List ℕ) (k : Keys) → length (k .queue .bytes) ≡ 16
+  pub turns-bytes : (types map : List ℕ) → allUpTo lastKey map ≡ true → (n : ℕ) (was is : List ℕ) (k : Keys) → length (k .queue .bytes) ≡ 16
       → length (turnsTo n m types map was is k .queue .bytes) ≡ 16
   turns-bytes = turns-keep (λ (k : Keys). length (k .queue .bytes) ≡ 16) m released-bytes (λ k type key h e. pressed-bytes k type key e)
 
@@ -62,7 +62,7 @@ module _ (m : Mode) where
   released-places k type key p =
       record { flags = simp length-set (p .flags); bytes = released-bytes k type key (p .bytes) }
 
-  pub turns-places : (types map : List ℕ) → allUpTo 104 map ≡ true → (n : ℕ) (was is : List ℕ) (k : Keys)
+  pub turns-places : (types map : List ℕ) → allUpTo lastKey map ≡ true → (n : ℕ) (was is : List ℕ) (k : Keys)
       → Places k → Places (turnsTo n m types map was is k)
   turns-places = turns-keep Places m released-places (λ k type key h p. pressed-places k type key p)
 

@@ -2,22 +2,19 @@
 use Prim.Native.Nat.{ℕ, zero, suc}
 use mathlib.Core.Bool.{Bool, true, false, not}
 use mathlib.Core.List.{List}
-use lib.Dec.{eqb}
 use lib.ListN.{getD, length}
 use Rattle.basics.specs.Choice.{pick, either}
+use Rattle.keys.specs.Keys.{lastKey}
 use Rattle.codes.specs.declared.Action.the-variants.{Release}
 use Rattle.queue.specs.Queues.{waiting, hasRoom}
 use Rattle.record.specs.declared.Mode.{Mode}
 use Rattle.record.specs.declared.Keys.{Keys}
 use Rattle.record.specs.Apart.{keysWith}
+use Rattle.record.specs.Held.{isHeld}
 use Rattle.sending.specs.Sending.{sends}
 use Rattle.keying.specs.declared.Handed.{Handed}
 use Rattle.keying.specs.declared.Passed.{Passed}
 use Rattle.keying.specs.Moves.{released}
-
--- A key is held.
-abbrev pub isHeld : Keys → ℕ → Bool
-isHeld k key = not (eqb (getD (k .held) key 0) 0)
 
 -- The release of a key would fit into the queue.
 abbrev pub canLeave : Keys → Mode → List ℕ → ℕ → Bool
@@ -33,7 +30,7 @@ handedFrom (suc n) key k m types =
 
 -- All keys, the lowest first.
 abbrev pub handedOver : Keys → Mode → List ℕ → Handed
-handedOver k m types = handedFrom 104 1 k m types
+handedOver k m types = handedFrom lastKey 1 k m types
 
 -- What the code gives of it, the flags having changed in place.
 abbrev pub handedWith : List ℕ → Passed → Handed

@@ -2,8 +2,10 @@
 use crate::Passed;
 use crate::moves::release_with;
 use codes::Action;
+use record::Held;
 use record::Mode;
 use record::Outgoing;
+use record::Types;
 use sending::bytes_of;
 ghost use mathlib.Core.Path.{_≡_};
 ghost use mathlib.Core.Bool.{true};
@@ -12,13 +14,13 @@ ghost use Rattle.record.specs.Range.{goodKeys, goodMode};
 ghost use Rattle.keying.specs.Handover.{handedWith, handedOver};
 
 // A handover goes on as far as the queue has room.
-pub fn hand_over(held: &mut [u8; 144], o: Outgoing, m: Mode, types: &[u8; 105]) -> Passed
+pub fn hand_over(held: &mut Held, o: Outgoing, m: Mode, types: &Types) -> Passed
     requires { ⌜ (goodKeys (keysWith (now held) o) ≡ true) × (goodMode m ≡ true) ⌝ }
     ensures { λ r. ⌜ handedWith (now (held .exit)) r ≡ handedOver (keysWith (now (held .entry)) o) m (now (types .entry)) ⌝ }
 {
     let mut e = o;
     let mut key: u8 = 1;
-    while key <= 104 {
+    while key <= keys::LAST_KEY {
         if held[key as usize] != 0 {
             let s = bytes_of(held, m, types[key as usize], key, Action::Release);
             let q = e.queue;

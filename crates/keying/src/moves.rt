@@ -2,10 +2,14 @@
 use crate::Told;
 use crate::repeating::delay_of;
 use codes::Sequence;
+use contacts::Columns;
 use keys::Table;
 use queue::Queue;
+use record::Held;
+use record::Map;
 use record::Mode;
 use record::Outgoing;
+use record::Types;
 use sending::queued;
 use sending::send_press;
 use sending::send_release;
@@ -14,7 +18,7 @@ ghost use mathlib.Core.Bool.{true};
 ghost use Prim.Native.Nat.{_≤_, _<_};
 ghost use lib.ListN.{length};
 ghost use Rattle.basics.specs.Lists.{allUpTo};
-ghost use Rattle.keys.specs.Keys.{laidOut};
+ghost use Rattle.keys.specs.Keys.{laidOut, lastKey};
 ghost use Rattle.queue.specs.Queues.{contents};
 ghost use Rattle.record.specs.Apart.{keysWith};
 ghost use Rattle.record.specs.Range.{goodKeys, goodMode};
@@ -22,7 +26,7 @@ ghost use Rattle.keying.specs.Moves.{keysTold, pressed, letGo, releasedW
 
 // A key is pressed.
 fn press(
-    held: &mut [u8; 144],
+    held: &mut Held,
     bytes: &mut [u8; 16],
     t: Told,
     table: &Table,
@@ -48,7 +52,7 @@ fn press(
 
 // A key is released.
 fn release(
-    held: &mut [u8; 144],
+    held: &mut Held,
     bytes: &mut [u8; 16],
     t: Told,
     table: &Table,
@@ -70,7 +74,7 @@ fn release(
 }
 
 // A key is let go, and this is the queue then.
-fn let_go(held: &mut [u8; 144], o: Outgoing, key: u8, q: Queue) -> Outgoing
+fn let_go(held: &mut Held, o: Outgoing, key: u8, q: Queue) -> Outgoing
     requires { ⌜ key < 144 ⌝ }
     ensures { λ r. ⌜ keysWith (now (held .exit)) r ≡ letGo (keysWith (now (held .entry)) o) key q ⌝ }
 {
@@ -85,7 +89,7 @@ fn let_go(held: &mut [u8; 144], o: Outgoing, key: u8, q: Queue) -> Outgoing
 }
 
 // A key is released, and these bytes say so.
-pub fn release_with(held: &mut [u8; 144], o: Outgoing, m: Mode, key: u8, s: Sequence) -> Outgoing
+pub fn release_with(held: &mut Held, o: Outgoing, m: Mode, key: u8, s: Sequence) -> Outgoing
     requires { ⌜ (goodKeys (keysWith (now held) o) ≡ true) × (key < 144) × (s .length ≤ 8) ⌝ }
     ensures { λ r. ⌜ keysWith (now (held .exit)) r ≡ releasedWith (keysWith (now (held .entry)) o) m key (contents s) ⌝ }
 {
@@ -96,16 +100,16 @@ pub fn release_with(held: &mut [u8; 144], o: Outgoing, m: Mode, key: u8, s: Sequ
 
 // The contact of a key turned, to closed (1) or to open (0).
 fn contact_turned(
-    held: &mut [u8; 144],
+    held: &mut Held,
     bytes: &mut [u8; 16],
     t: Told,
     table: &Table,
     m: Mode,
-    types: &[u8; 105],
+    types: &Types,
     key: u8,
     closed: u8,
 ) -> Told
-    requires { ⌜ (goodKeys (keysTold (now held) (now bytes) t) ≡ true) × (goodMode m ≡ true) × (length (now bytes) ≡ 16) × (key ≤ 104) × (now table ≡ laidOut) ⌝ }
+    requires { ⌜ (goodKeys (keysTold (now held) (now bytes) t) ≡ true) × (goodMode m ≡ true) × (length (now bytes) ≡ 16) × (key ≤ lastKey) × (now table ≡ laidOut) ⌝ }
     ensures { λ r. ⌜ keysTold (now (held .exit)) (now (bytes .exit)) r ≡ moved (keysTold (now (held .entry)) (now (bytes .entry)) t) m (now (types .entry)) key closed ⌝ }
 {
     if key == 0 {
@@ -120,18 +124,18 @@ fn contact_turned(
 
 // The contacts of a column that turned: only their rows are visited, the lowest first.
 fn column(
-    held: &mut [u8; 144],
+    held: &mut Held,
     bytes: &mut [u8; 16],
     t: Told,
     table: &Table,
     m: Mode,
-    types: &[u8; 105],
-    map: &[u8; 144],
+    types: &Types,
+    map: &Map,
     c: usize,
     was: u8,
     is: u8,
 ) -> Told
-    requires { ⌜ (goodKeys (keysTold (now held) (now bytes) t) ≡ true) × (goodMode m ≡ true) × (length (now bytes) ≡ 16) × (c < 18) × (allUpTo 104 (now map) ≡ true) × (now table ≡ laidOut) ⌝ }
+    requires { ⌜ (goodKeys (keysTold (now held) (now bytes) t) ≡ true) × (goodMode m ≡ true) × (length (now bytes) ≡ 16) × (c < 18) × (allUpTo lastKey (now map) ≡ true) × (now table ≡ laidOut) ⌝ }
     ensures { λ r. ⌜ keysTold (now (held .exit)) (now (bytes .exit)) r ≡ rowsTo 8 m (now (types .entry)) (now (map .entry)) c was is (keysTold (now (held .entry)) (now (bytes .entry)) t) ⌝ }
 {
     let mut e = t;
@@ -155,15 +159,15 @@ fn column(
 
 // All contacts that turned, in the order of their positions.
 pub fn turns(
-    held: &mut [u8; 144],
+    held: &mut Held,
     o: Outgoing,
     m: Mode,
-    types: &[u8; 105],
-    map: &[u8; 144],
-    was: &[u8; 18],
-    is: &[u8; 18],
+    types: &Types,
+    map: &Map,
+    was: &Columns,
+    is: &Columns,
 ) -> Outgoing
-    requires { ⌜ (goodKeys (keysWith (now held) o) ≡ true) × (goodMode m ≡ true) × (allUpTo 104 (now map) ≡ true) ⌝ }
+    requires { ⌜ (goodKeys (keysWith (now held) o) ≡ true) × (goodMode m ≡ true) × (allUpTo lastKey (now map) ≡ true) ⌝ }
     ensures { λ r. ⌜ keysWith (now (held .exit)) r ≡ turnsTo 144 m (now (types .entry)) (now (map .entry)) (now (was .entry)) (now (is .entry)) (keysWith (now (held .entry)) o) ⌝ }
 {
     let table = keys::table();

@@ -1,7 +1,9 @@
 // The key that repeats.
 use codes::Action;
+use record::Held;
 use record::Mode;
 use record::Outgoing;
+use record::Types;
 use sending::bytes_of;
 ghost use mathlib.Core.Path.{_≡_};
 ghost use mathlib.Core.Bool.{true};
@@ -38,7 +40,7 @@ pub fn tick(o: Outgoing) -> Outgoing
 }
 
 // A repeat that is due is sent if nothing waits. No flag changes.
-pub fn repeat(held: &[u8; 144], o: Outgoing, m: Mode, types: &[u8; 105], quiet: bool) -> Outgoing
+pub fn repeat(held: &Held, o: Outgoing, m: Mode, types: &Types, quiet: bool) -> Outgoing
     requires { ⌜ (goodKeys (keysWith (now held) o) ≡ true) × (goodMode m ≡ true) ⌝ }
     ensures { λ r. ⌜ keysWith (now (held .entry)) r ≡ repeated (keysWith (now (held .entry)) o) m (now (types .entry)) quiet ⌝ }
 {

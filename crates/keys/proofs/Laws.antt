@@ -5,13 +5,13 @@ use Prim.Native.Nat.{ℕ, zero, suc, _-_, _<_, _≤_}
 use native.Mathlib.Omega.{arith}
 use lib.ListN.{getD, length, List·getD-eq-default}
 use Rattle.keys.specs.declared.Row.{Row}
-use Rattle.keys.specs.Keys.{row, rows, noRow, numbersOf, laidOut, rowOf}
+use Rattle.keys.specs.Keys.{row, rows, noRow, numbersOf, laidOut, rowOf, lastKey}
 
 pub no-key : (k : ℕ) → k ≡ 0 → noRow ≡ rowOf k
 unfolding rowOf
 no-key k e = rw e
 
-pub past-the-keys : (k : ℕ) → 104 < k → noRow ≡ rowOf k
+pub past-the-keys : (k : ℕ) → lastKey < k → noRow ≡ rowOf k
 unfolding rowOf rows
 past-the-keys k h = sym (List·getD-eq-default (noRow ∷ rows) noRow {n = k} h)
 
@@ -24,11 +24,11 @@ laid-row [] i h = absurd (omega arith)
 laid-row (r ∷ l) zero h = refl
 laid-row (r ∷ l) (suc i) h = laid-row l i (omega arith)
 
-pub rows-length : length rows ≡ 104
+pub rows-length : length rows ≡ lastKey
 unfolding rows
 rows-length = refl
 
-pub at-its-place : (t : List (List ℕ)) (k : ℕ) → t ≡ laidOut → (k ≡ 0 → ⊥) → k ≤ 104 → rowFrom (getD t (k - 1) []) ≡ rowOf k
+pub at-its-place : (t : List (List ℕ)) (k : ℕ) → t ≡ laidOut → (k ≡ 0 → ⊥) → k ≤ lastKey → rowFrom (getD t (k - 1) []) ≡ rowOf k
 unfolding laidOut rowOf
 at-its-place t zero e n h = absurd (n refl)
 at-its-place t (suc k) e n h =

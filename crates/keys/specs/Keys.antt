@@ -28,7 +28,11 @@ row one two three type = (one, two, three, type)
 abbrev pub noRow : Row
 noRow = row 0 0 0 0
 
--- The rows of keys 1 to 104.
+-- Keys are numbered from 1 to this.
+abbrev pub lastKey : ℕ
+lastKey = 104
+
+-- The rows of all keys, key 1 first.
 unfoldable pub rows : List Row
 rows =
     row 0x29 0x0e 0x0e typematic ∷  -- 1 `

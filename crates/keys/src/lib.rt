@@ -17,8 +17,14 @@ pub const TYPEMATIC_MAKE_BREAK: u8 = 3;
 // A code above 255 has the prefix E0: 0xe05b is sent as E0 5B.
 pub struct Row(pub u16, pub u16, pub u16, pub u16);
 
+// Keys are numbered from 1 to this.
+pub const LAST_KEY: u8 = 104;
+
+// Places for something of each key, by its number: place 0 is no key's.
+pub const PLACES: usize = LAST_KEY as usize + 1;
+
 // The table has the four parts of each row as an array, since an array of structs cannot be lent.
-pub type Table = [[u16; 4]; 104];
+pub type Table = [[u16; 4]; LAST_KEY as usize];
 
 // The types, short enough for the table.
 const T: u16 = 0; // Typematic
@@ -150,7 +156,7 @@ pub fn row_in(table: &Table, key: u8) -> Row
     if key == 0 {
         return Row(0, 0, 0, 0);
     }
-    if 104 < key {
+    if LAST_KEY < key {
         return Row(0, 0, 0, 0);
     }
     let row = table[(key - 1) as usize];

@@ -1,8 +1,13 @@
 // The bench's lines (docs/RULES.md, section 12): what a line asks of the dock, and what is printed for it.
+use contacts::Columns;
+use contacts::Counts;
 use dock::Answer;
 use dock::Given;
 use record::Dock;
+use record::Held;
+use record::Map;
 use record::Rest;
+use record::Types;
 use record::apart::dock_with;
 use record::apart::rest_of;
 use text::Kind;
@@ -72,11 +77,11 @@ fn read_prints(given: Given) -> Printed
 
 // 36 digits: a scan.
 fn scan_line(
-    map: &[u8; 144],
-    closed: &mut [u8; 18],
-    counts: &mut [u8; 144],
-    held: &mut [u8; 144],
-    types: &[u8; 105],
+    map: &Map,
+    closed: &mut Columns,
+    counts: &mut Counts,
+    held: &mut Held,
+    types: &Types,
     r: Rest,
     line: &[u8],
 ) -> Walked
@@ -94,7 +99,7 @@ fn scan_line(
 }
 
 // An empty line: a read.
-fn read_line(held: &mut [u8; 144], types: &[u8; 105], r: Rest) -> Walked
+fn read_line(held: &mut Held, types: &Types, r: Rest) -> Walked
     requires { ⌜ restInRange (now held) (now types) r ≡ true ⌝ }
     ensures { λ x. ⌜ ((map closed counts : List ℕ) → inRange (dockWith map closed counts (now (held .entry)) (now (types .entry)) r) ≡ true → walkedWith map closed counts (now (held .exit)) (now (types .entry)) x ≡ steppedRead (readOf (dockWith map closed counts (now (held .entry)) (now (types .entry)) r))) ⌝ }
 {
@@ -109,10 +114,10 @@ fn read_line(held: &mut [u8; 144], types: &[u8; 105], r: Rest) -> Walked
 
 // 3 digits: a host frame.
 fn frame_line(
-    closed: &mut [u8; 18],
-    counts: &mut [u8; 144],
-    held: &mut [u8; 144],
-    types: &mut [u8; 105],
+    closed: &mut Columns,
+    counts: &mut Counts,
+    held: &mut Held,
+    types: &mut Types,
     r: Rest,
     line: &[u8],
 ) -> Walked
@@ -131,11 +136,11 @@ fn frame_line(
 
 // 288 digits: a map to swap to.
 fn map_line(
-    map: &mut [u8; 144],
-    closed: &mut [u8; 18],
-    counts: &mut [u8; 144],
-    held: &mut [u8; 144],
-    types: &[u8; 105],
+    map: &mut Map,
+    closed: &mut Columns,
+    counts: &mut Counts,
+    held: &mut Held,
+    types: &Types,
     r: Rest,
     line: &[u8],
 ) -> Walked
@@ -154,11 +159,11 @@ fn map_line(
 
 // One line, without its newline, in place, of a record in its range: the arrays are lent, and only the rest is passed.
 pub fn step_in_place(
-    map: &mut [u8; 144],
-    closed: &mut [u8; 18],
-    counts: &mut [u8; 144],
-    held: &mut [u8; 144],
-    types: &mut [u8; 105],
+    map: &mut Map,
+    closed: &mut Columns,
+    counts: &mut Counts,
+    held: &mut Held,
+    types: &mut Types,
     r: Rest,
     line: &[u8],
 ) -> Walked

@@ -13,6 +13,7 @@ use lib.Seq.{drop-cons, set-getD, getD-set-same, getD-set-other}
 use Rattle.basics.specs.Choice.{either}
 use Rattle.basics.proofs.Cases.{either-true, either-false}
 use Rattle.basics.proofs.Zeros.{zeros-at}
+use Rattle.keys.specs.Keys.{lastKey}
 use Rattle.maps.specs.Maps.{isIn, hasDouble}
 
 -- A key has its mark.
@@ -69,9 +70,9 @@ next seen (suc k) h z ks =
     order false false false d = refl
 
 -- The loop that looks for a double: at its start, after a turn, and at its end.
-pub double-none : (l : List ℕ) → hasDouble l ≡ either false (toFind (replicate 105 0) l)
+pub double-none : (l : List ℕ) → hasDouble l ≡ either false (toFind (replicate (suc lastKey) 0) l)
 unfolding toFind
-double-none l = rw (none-marked 105 l)
+double-none l = rw (none-marked (suc lastKey) l)
 
 -- No key is 0, and it gets no mark.
 pub zero-unmarked : (seen : List ℕ) (k : ℕ) → getD seen 0 0 ≡ 0 → getD (set seen k k) 0 0 ≡ 0

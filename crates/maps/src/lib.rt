@@ -3,14 +3,15 @@ ghost use mathlib.Core.Path.{_≡_};
 ghost use mathlib.Core.Bool.{true};
 ghost use lib.ListN.{length};
 ghost use Rattle.basics.specs.Lists.{allUpTo};
+ghost use Rattle.keys.specs.Keys.{lastKey};
 ghost use Rattle.maps.specs.Maps.{hasDouble};
 
 // Some key stands twice. An entry is its own mark among those seen, so that 0 needs no test.
 pub fn has_double(map: &[u8; 144]) -> bool
-    requires { ⌜ (length (now map) ≡ 144) × (allUpTo 104 (now map) ≡ true) ⌝ }
+    requires { ⌜ (length (now map) ≡ 144) × (allUpTo lastKey (now map) ≡ true) ⌝ }
     ensures { λ r. ⌜ r ≡ hasDouble (now (map .entry)) ⌝ }
 {
-    let mut seen = [0u8; 105];
+    let mut seen = [0u8; keys::PLACES];
     let mut double = false;
     let mut p: usize = 0;
     while p < 144 {

@@ -4,6 +4,7 @@ use mathlib.Core.Bool.{Bool, _&&_, _||_, and-assoc}
 use lib.Dec.{leb, eqb}
 use Rattle.basics.specs.Choice.{between}
 use Rattle.basics.specs.Lists.{allUpTo}
+use Rattle.keys.specs.Keys.{lastKey}
 use Rattle.queue.specs.Queues.{tidy}
 use Rattle.queue.specs.Replies.{tidyReplies}
 use Rattle.record.specs.declared.Mode.{Mode}
@@ -15,11 +16,11 @@ pub joined-mode : (m : Mode) → (leb 1 (m .set) && leb (m .set) 3 && leb (m .ra
 unfolding goodMode
 joined-mode m = and-assoc (between 1 3 (m .set)) (leb (m .rate) 127) (leb (m .indicators) 7)
 
-pub joined-keys : (k : Keys) (queue : Bool) → queue ≡ tidy (k .queue) → (queue && leb (k .repeating) 104 && leb (k .clock) 240) ≡ goodKeys k
+pub joined-keys : (k : Keys) (queue : Bool) → queue ≡ tidy (k .queue) → (queue && leb (k .repeating) lastKey && leb (k .clock) 240) ≡ goodKeys k
 unfolding goodKeys
 joined-keys k queue e = rw (← e) (simp and-assoc)
 
-pub joined-range : (d : Dock) (map keys mode replies value : Bool) → map ≡ allUpTo 104 (d .map) → keys ≡ goodKeys (d .keys)
+pub joined-range : (d : Dock) (map keys mode replies value : Bool) → map ≡ allUpTo lastKey (d .map) → keys ≡ goodKeys (d .keys)
     → mode ≡ goodMode (d .mode) → replies ≡ tidyReplies (d .replies) → value ≡ takesValue (d .waiting)
     → (map && keys && mode && replies && (eqb (d .waiting) 0 || value)) ≡ inRange d
 unfolding inRange

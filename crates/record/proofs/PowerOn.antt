@@ -4,6 +4,7 @@ use mathlib.Core.Bool.{true}
 use mathlib.Core.List.{List, [], _∷_}
 use Prim.Native.Nat.{ℕ}
 use Rattle.basics.specs.Lists.{allUpTo}
+use Rattle.keys.specs.Keys.{lastKey}
 use Rattle.queue.specs.declared.replies.Replies.{Replies}
 use Rattle.queue.specs.Queues.{tidy, queueOf}
 use Rattle.queue.specs.Replies.{tidyReplies, repliesOf}
@@ -11,7 +12,7 @@ use Rattle.record.specs.Power.{countUp, plainMap, freshWith, powerOn}
 use Rattle.record.specs.Range.{goodMode, goodKeys, inRange}
 use Rattle.record.proofs.Ranges.{in-range}
 
-pub fresh-in-range : (map : List ℕ) (replies : Replies) → allUpTo 104 map ≡ true → tidyReplies replies ≡ true → inRange (freshWith map replies) ≡ true
+pub fresh-in-range : (map : List ℕ) (replies : Replies) → allUpTo lastKey map ≡ true → tidyReplies replies ≡ true → inRange (freshWith map replies) ≡ true
 unfolding freshWith goodKeys goodMode tidy queueOf allUpTo
 fresh-in-range map replies good short = in-range (freshWith map replies) good refl refl short refl
 

@@ -6,6 +6,7 @@ use Prim.Native.Nat.{ℕ, _≤_}
 use borrow.Author.Tests.{leb-true, le-leb}
 use Rattle.basics.specs.Lists.{allUpTo}
 use Rattle.basics.proofs.Flags.{left-of-both, right-of-both}
+use Rattle.keys.specs.Keys.{lastKey}
 use Rattle.contacts.specs.declared.Contacts.{Contacts}
 use Rattle.queue.specs.declared.Queue.{Queue}
 use Rattle.queue.specs.declared.replies.Replies.{Replies}
@@ -42,9 +43,9 @@ module _ (k : Keys) (h : goodKeys k ≡ true) where
   unfolding goodKeys
   good-keys-queue = search left-of-both
 
-  pub good-keys-repeating : k .repeating ≤ 104
+  pub good-keys-repeating : k .repeating ≤ lastKey
   unfolding goodKeys
-  good-keys-repeating = leb-true (k .repeating) 104 (search (left-of-both, right-of-both))
+  good-keys-repeating = leb-true (k .repeating) lastKey (search (left-of-both, right-of-both))
 
   pub good-keys-clock : k .clock ≤ 240
   unfolding goodKeys
@@ -55,22 +56,22 @@ module _ (k : Keys) (h : goodKeys k ≡ true) where
   unfolding goodKeys
   good-keys-with-queue queue g = rw g (rw good-keys-queue at h)
 
-  pub good-keys-with-repeat : (key clock : ℕ) → key ≤ 104 → clock ≤ 240 → goodKeys (withRepeat k key clock) ≡ true
+  pub good-keys-with-repeat : (key clock : ℕ) → key ≤ lastKey → clock ≤ 240 → goodKeys (withRepeat k key clock) ≡ true
   unfolding goodKeys
-  good-keys-with-repeat key clock g f = rw (good-keys-queue, le-leb key 104 g) (le-leb clock 240 f)
+  good-keys-with-repeat key clock g f = rw (good-keys-queue, le-leb key lastKey g) (le-leb clock 240 f)
 
-pub good-keys : (k : Keys) → tidy (k .queue) ≡ true → k .repeating ≤ 104 → k .clock ≤ 240 → goodKeys k ≡ true
+pub good-keys : (k : Keys) → tidy (k .queue) ≡ true → k .repeating ≤ lastKey → k .clock ≤ 240 → goodKeys k ≡ true
 unfolding goodKeys
-good-keys k b c e = rw (b, le-leb (k .repeating) 104 c) (le-leb (k .clock) 240 e)
+good-keys k b c e = rw (b, le-leb (k .repeating) lastKey c) (le-leb (k .clock) 240 e)
 
 -- The record.
-pub in-range : (d : Dock) → allUpTo 104 (d .map) ≡ true → goodKeys (d .keys) ≡ true → goodMode (d .mode) ≡ true → tidyReplies (d .replies) ≡ true
+pub in-range : (d : Dock) → allUpTo lastKey (d .map) ≡ true → goodKeys (d .keys) ≡ true → goodMode (d .mode) ≡ true → tidyReplies (d .replies) ≡ true
     → goodWaiting (d .waiting) ≡ true → inRange d ≡ true
 unfolding inRange
 in-range d map keys mode replies waiting = rw (map, keys, mode, replies) waiting
 
 module _ (d : Dock) (h : inRange d ≡ true) where
-  pub in-range-map : allUpTo 104 (d .map) ≡ true
+  pub in-range-map : allUpTo lastKey (d .map) ≡ true
   unfolding inRange
   in-range-map = search left-of-both
 
@@ -91,7 +92,7 @@ module _ (d : Dock) (h : inRange d ≡ true) where
   in-range-waiting = search (left-of-both, right-of-both)
 
   -- With another part in its range it stays in range; five parts take any value.
-  pub in-range-with-map : (map : List ℕ) → allUpTo 104 map ≡ true → inRange (withMap d map) ≡ true
+  pub in-range-with-map : (map : List ℕ) → allUpTo lastKey map ≡ true → inRange (withMap d map) ≡ true
   unfolding inRange
   in-range-with-map map g = rw g (rw in-range-map at h)
 

@@ -1,4 +1,5 @@
 pub mod Power
 pub mod Range
 pub mod Parts
+pub mod Held
 pub mod Apart

@@ -4,6 +4,7 @@ use mathlib.Core.Bool.{Bool}
 use lib.Dec.{leb, eqb}
 use Rattle.basics.specs.Choice.{both, either, between}
 use Rattle.basics.specs.Lists.{allUpTo}
+use Rattle.keys.specs.Keys.{lastKey}
 use Rattle.queue.specs.Queues.{tidy}
 use Rattle.queue.specs.Replies.{tidyReplies}
 use Rattle.record.specs.declared.Mode.{Mode}
@@ -16,7 +17,7 @@ goodMode m = both (between 1 3 (m .set)) (both (leb (m .rate) 127) (leb (m .indi
 
 -- A queue, a key or none, and a clock that no interval outlasts. A flag of `held` that is not 0 says that its key is held.
 unfoldable pub goodKeys : Keys → Bool
-goodKeys k = both (tidy (k .queue)) (both (leb (k .repeating) 104) (leb (k .clock) 240))
+goodKeys k = both (tidy (k .queue)) (both (leb (k .repeating) lastKey) (leb (k .clock) 240))
 
 -- A command that takes a value.
 abbrev pub takesValue : ℕ → Bool
@@ -30,7 +31,7 @@ goodWaiting byte = either (eqb byte 0) (takesValue byte)
 -- Every part is in its range; contacts, flags of held keys, types and the byte given may be anything.
 unfoldable pub inRange : Dock → Bool
 inRange d =
-    both (allUpTo 104 (d .map))
+    both (allUpTo lastKey (d .map))
     (both (goodKeys (d .keys))
     (both (goodMode (d .mode))
     (both (tidyReplies (d .replies))

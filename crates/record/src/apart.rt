@@ -1,9 +1,14 @@
 // The record taken apart: a call that works in place is lent the arrays and takes the rest by value.
 use crate::Dock;
+use crate::Held;
 use crate::Keys;
+use crate::Map;
 use crate::Outgoing;
 use crate::Rest;
+use crate::Types;
+use contacts::Columns;
 use contacts::Contacts;
+use contacts::Counts;
 ghost use mathlib.Core.Path.{_≡_};
 ghost use Rattle.record.specs.Apart.{outgoingOf, restOf, keysWith, dockWith};
 
@@ -38,7 +43,7 @@ pub fn rest_of(d: Dock) -> Rest
 }
 
 // The keys put together.
-fn keys_with(held: [u8; 144], o: Outgoing) -> Keys
+fn keys_with(held: Held, o: Outgoing) -> Keys
     ensures { λ r. ⌜ r ≡ keysWith held o ⌝ }
 {
     let queue = o.queue;
@@ -52,11 +57,11 @@ fn keys_with(held: [u8; 144], o: Outgoing) -> Keys
 
 // The record put together.
 pub fn dock_with(
-    map: [u8; 144],
-    closed: [u8; 18],
-    counts: [u8; 144],
-    held: [u8; 144],
-    types: [u8; 105],
+    map: Map,
+    closed: Columns,
+    counts: Counts,
+    held: Held,
+    types: Types,
     r: Rest,
 ) -> Dock
     ensures { λ d. ⌜ d ≡ dockWith map closed counts held types r ⌝ }

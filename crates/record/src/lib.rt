@@ -7,6 +7,15 @@ pub mod range; // range.rt: is every part in its range
 pub mod apart; // apart.rt: the record taken apart, so that its arrays can be lent
 pub mod power; // power.rt: the record at power-on
 
+// A key, or 0, for each position of a panel.
+pub type Map = [u8; 144];
+
+// A flag for each key, by its number.
+pub type Held = [u8; 144];
+
+// A type for each key, by its number.
+pub type Types = [u8; keys::PLACES];
+
 // What the host has chosen.
 pub struct Mode {
     pub set: u8, // 1 to 3
@@ -16,7 +25,7 @@ pub struct Mode {
 
 // The keys as the terminal is told of them.
 pub struct Keys {
-    pub held: [u8; 144], // by key number: 0 not held, else held; places 0 and 105 on are never set
+    pub held: Held, // by key number: 0 not held, else held; a place that is no key's is never set
     pub queue: Queue, // the key bytes that wait
     pub repeating: u8, // the key that repeats, 0 for none
     pub clock: u8, // the scans until its next repeat: 0 to 240
@@ -24,10 +33,10 @@ pub struct Keys {
 
 // All that the dock knows.
 pub struct Dock {
-    pub map: [u8; 144], // the key at each position, 0 for none
+    pub map: Map, // the key at each position, 0 for none
     pub contacts: Contacts, // what the counted scans made of the contacts
     pub keys: Keys,
-    pub types: [u8; 105], // the set 3 type of each key, by key number
+    pub types: Types, // the set 3 type of each key
     pub mode: Mode,
     pub replies: Replies, // the replies that wait
     pub scanning: bool,

@@ -34,7 +34,7 @@ fn is_good_keys(k: Keys) -> bool
     ensures { λ r. ⌜ r ≡ goodKeys k ⌝ }
 {
     let q = k.queue;
-    queue::is_tidy(q) & (k.repeating <= 104) & (k.clock <= 240)
+    queue::is_tidy(q) & (k.repeating <= keys::LAST_KEY) & (k.clock <= 240)
 }
 
 // A command that takes a value.
@@ -51,7 +51,7 @@ pub fn in_range(d: Dock) -> bool
     let keys = d.keys;
     let mode = d.mode;
     let replies = d.replies;
-    all_up_to(104, &d.map)
+    all_up_to(keys::LAST_KEY, &d.map)
         & is_good_keys(keys)
         & is_good_mode(mode)
         & queue::replies::is_tidy(replies)

@@ -9,7 +9,7 @@ use native.Mathlib.Omega.{arith}
 use lib.Dec.{T, eqb, leb, leb→le}
 use Rattle.basics.specs.Choice.{both, either, between}
 use Rattle.basics.proofs.Tables.{allBelow, below, both-left, both-right}
-use Rattle.keys.specs.Keys.{rows, rowOf, codeIn}
+use Rattle.keys.specs.Keys.{rows, rowOf, codeIn, lastKey}
 use Rattle.lookup.specs.Lookup.{keyWith, firstWith}
 use Rattle.codes.specs.declared.Form.the-variants.{Plain, Other}
 use Rattle.codes.specs.Codes.{makeOf, breakOf, prefix, codeOf}
@@ -22,7 +22,7 @@ use Rattle.roundtrip.proofs.Lists.{same, same-is-equal}
 
 -- A number and a list that pass these tests are a key and its code in a set.
 isCode : ℕ → ℕ → List ℕ → List ℕ → List ℕ → Bool
-isCode set key bytes plain other = both (between 1 104 key) (either (same bytes plain) (both (not (eqb set 3)) (same bytes other)))
+isCode set key bytes plain other = both (between 1 lastKey key) (either (same bytes plain) (both (not (eqb set 3)) (same bytes other)))
 
 -- What an answer may say of all the bytes read so far.
 right : ℕ → List ℕ → ℕ → Event → Bool
@@ -73,19 +73,19 @@ at set state byte low high s b = each set low high
     each (suc (suc (suc (suc n)))) l h = absurd (omega arith)
 
 code-of : (set key : ℕ) (bytes plain other : List ℕ) → T (isCode set key bytes plain other)
-    → (1 ≤ key) × (key ≤ 104) × ((bytes ≡ plain) ⊎ ((set ≡ 3 → ⊥) × (bytes ≡ other)))
+    → (1 ≤ key) × (key ≤ lastKey) × ((bytes ≡ plain) ⊎ ((set ≡ 3 → ⊥) × (bytes ≡ other)))
 unfolding isCode
 code-of set key bytes plain other t = (
-  leb→le 1 key (both-left (leb 1 key) (leb key 104) range),
-  leb→le key 104 (both-right (leb 1 key) (leb key 104) range),
-  go (same bytes plain) refl (both-right (between 1 104 key) (either (same bytes plain) byOther) t),
+  leb→le 1 key (both-left (leb 1 key) (leb key lastKey) range),
+  leb→le key lastKey (both-right (leb 1 key) (leb key lastKey) range),
+  go (same bytes plain) refl (both-right (between 1 lastKey key) (either (same bytes plain) byOther) t),
 )
   where
     byOther : Bool
     byOther = both (not (eqb set 3)) (same bytes other)
 
-    range : T (between 1 104 key)
-    range = both-left (between 1 104 key) (either (same bytes plain) byOther) t
+    range : T (between 1 lastKey key)
+    range = both-left (between 1 lastKey key) (either (same bytes plain) byOther) t
 
     go : (b : Bool) → same bytes plain ≡ b → T (either b byOther) → (bytes ≡ plain) ⊎ ((set ≡ 3 → ⊥) × (bytes ≡ other))
     go true e h = inl (same-is-equal bytes plain (rw e tt))

@@ -9,7 +9,7 @@ use native.Mathlib.Omega.{arith}
 use lib.ListN.{getD}
 use Rattle.basics.specs.Lists.{mapFrom}
 use Rattle.basics.proofs.Tables.{at-each-place}
-use Rattle.keys.specs.Keys.{rows, rowOf, noRow, codeIn}
+use Rattle.keys.specs.Keys.{rows, rowOf, noRow, codeIn, lastKey}
 use Rattle.keys.proofs.Laws.{rows-length}
 use Rattle.lookup.specs.Lookup.{keyWith, firstWith}
 use Rattle.codes.specs.declared.Action.{Action}
@@ -57,7 +57,7 @@ module _ {B : Type 0} where
   each-type f g e (suc (suc (suc (suc t)))) h = absurd (omega arith)
 
   each-key : (f g : ℕ → B) → mapFrom (λ key r. f key) 1 rows ≡ mapFrom (λ key r. g key) 1 rows
-      → (key : ℕ) → 1 ≤ key → key ≤ 104 → f key ≡ g key
+      → (key : ℕ) → 1 ≤ key → key ≤ lastKey → f key ≡ g key
   each-key f g e zero low high = absurd (not-suc-le-zero low)
   each-key f g e (suc k) low high =
       let one-more : 1 + k ≡ suc k = omega arith in
@@ -87,7 +87,7 @@ in-set-3 : mapFrom (λ key r. map (λ action. map (λ type. readAll 3 0 (bytesOf
 unfolding rows rowOf codeIn keyWith firstWith actions types bytesOf before after makeOf breakOf prefix codeOf pauseBytes sendsRelease mayRepeat readAll readByte inSet3 wanted
 in-set-3 = refl
 
-module _ (key : ℕ) (low : 1 ≤ key) (high : key ≤ 104) (action : Action) where
+module _ (key : ℕ) (low : 1 ≤ key) (high : key ≤ lastKey) (action : Action) where
   at-form : (set type : ℕ) → Holds set type → (form : Form) → readAll set 0 (bytesOf set key action type form) ≡ noting (wanted set key action type)
   unfolding Holds
   at-form set type holds =

@@ -3,6 +3,7 @@ use mathlib.Core.Path.{_≡_}
 use mathlib.Core.List.{List}
 use mathlib.Core.Logic.{_⊎_}
 use Prim.Native.Nat.{ℕ, _≤_}
+use Rattle.keys.specs.Keys.{lastKey}
 use Rattle.codes.specs.declared.Form.the-variants.{Plain, Other}
 use Rattle.codes.specs.Codes.{makeOf, breakOf, codeOf}
 
@@ -10,11 +11,11 @@ use Rattle.codes.specs.Codes.{makeOf, breakOf, codeOf}
 -- form: what would be the code of one there is that of another key.
 pub record GoesDown (set key : ℕ) (bytes : List ℕ) : Type 0 where
   pub low : 1 ≤ key
-  pub high : key ≤ 104
+  pub high : key ≤ lastKey
   pub code : (bytes ≡ makeOf (codeOf set key Plain)) ⊎ ((set ≡ 3 → ⊥) × (bytes ≡ makeOf (codeOf set key Other)))
 
 -- The same when it comes up.
 pub record ComesUp (set key : ℕ) (bytes : List ℕ) : Type 0 where
   pub low : 1 ≤ key
-  pub high : key ≤ 104
+  pub high : key ≤ lastKey
   pub code : (bytes ≡ breakOf set (codeOf set key Plain)) ⊎ ((set ≡ 3 → ⊥) × (bytes ≡ breakOf set (codeOf set key Other)))

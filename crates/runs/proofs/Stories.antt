@@ -5,6 +5,7 @@ use mathlib.Core.List.{map}
 use Rattle.basics.specs.Lists.{allUpTo}
 use Rattle.record.specs.Power.{countUp, plainMap, defaultTypes, freshWith, powerOn}
 use Rattle.record.specs.Range.{inRange, goodMode, goodKeys}
+use Rattle.record.specs.Held.{modifiersOf}
 use Rattle.queue.specs.Queues.{waiting, queueOf, tidy, pushedTo, lastReplaced}
 use Rattle.queue.specs.Replies.{waitingReplies, repliesOf, tidyReplies}
 use Rattle.keys.specs.Keys.{rows, rowOf, codeIn}
@@ -13,7 +14,7 @@ use Rattle.codes.specs.Codes.{encode, bytesOf, formOf, cursorForm, shiftForm, p
 use Rattle.contacts.specs.Scans.{contact, same}
 use Rattle.contacts.specs.Phantom.{isPhantom, sharesAny}
 use Rattle.contacts.specs.Counts.{countedOf}
-use Rattle.sending.specs.Sending.{modifiersOf, sends, queuedOf}
+use Rattle.sending.specs.Sending.{sends, queuedOf}
 use Rattle.keying.specs.Moves.{pressed, releasedWith, released, moved, turned, turnsTo}
 use Rattle.keying.specs.Repeat.{delayOf, intervalOf, repeated}
 use Rattle.keying.specs.Handover.{handedFrom}
@@ -43,14 +44,14 @@ pub all-as-told : map (λ (s : Story). outcome (s .earlier) (s .calls)) stories 
 unfolding
     ones onesIn
     allUpTo
-    countUp plainMap defaultTypes freshWith powerOn inRange goodMode goodKeys
+    countUp plainMap defaultTypes freshWith powerOn inRange goodMode goodKeys modifiersOf
     waiting queueOf tidy waitingReplies repliesOf tidyReplies pushedTo lastReplaced
     rows rowOf codeIn
     keyWith firstWith
     encode bytesOf formOf cursorForm shiftForm printForm pauseForm before after makeOf breakOf prefix codeOf sendsRelease
     mayRepeat pauseBytes
     contact same isPhantom sharesAny countedOf
-    modifiersOf sends queuedOf
+    sends queuedOf
     pressed releasedWith released moved turned turnsTo delayOf intervalOf repeated handedFrom
     parity packedOf whole unpackedOf
     obeyed replyTo commanded rightValue valued tookValue tookByte

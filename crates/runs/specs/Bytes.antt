@@ -5,6 +5,7 @@ use mathlib.Core.Bool.{Bool}
 use mathlib.Core.List.{List, [], _∷_, _++_}
 use lib.ListN.{getD}
 use Rattle.basics.specs.Choice.{pick}
+use Rattle.keys.specs.Keys.{lastKey}
 use Rattle.codes.specs.declared.Action.the-variants.{Repeat}
 use Rattle.codes.specs.Codes.{mayRepeat}
 use Rattle.contacts.specs.Phantom.{isPhantom}
@@ -53,7 +54,7 @@ heardBytes d scan =
 
 -- What the end of an accepted call puts into it: the releases of an open handover, as far as they fit.
 unfoldable pub closingBytes : Dock → List ℕ
-closingBytes d = pick (d .handover) (handedBytes 104 1 (d .keys) (d .mode) (d .types)) []
+closingBytes d = pick (d .handover) (handedBytes lastKey 1 (d .keys) (d .mode) (d .types)) []
 
 -- What a scan puts into it: one that is not listened to only ends.
 unfoldable pub scanBytes : Dock → List ℕ → List ℕ

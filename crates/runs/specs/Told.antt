@@ -1,8 +1,9 @@
 -- The stories that are told of demand 3 (docs/RULES.md, section 13). On a plain panel the 2, key 3, is row 2 of column 0; SHIFT_L is
 -- row 1 of column 5, UP row 0 of column 8, and PAUSE row 4 of column 12. Assumes nothing.
-use Prim.Native.Nat.{ℕ}
+use Prim.Native.Nat.{ℕ, suc}
 use mathlib.Core.List.{List, [], _∷_, _++_}
 use lib.ListN.{replicate}
+use Rattle.keys.specs.Keys.{lastKey}
 use Rattle.record.specs.Power.{plainMap}
 use Rattle.runs.specs.Calls.{Scan, Swap, Frame}
 use Rattle.runs.specs.Stories.{Story, story, agreeing, pauseApart, reads, host, scans, nothing, showing, showingToo}
@@ -89,7 +90,7 @@ pauseStruck = story (reads 1) (scans 3 (showing 12 0x10) ++ reads 8) (pauseApart
 unfoldable pub refusals : Story
 refusals =
     story (reads 1)
-    (Scan [] ∷ Swap [] ∷ Swap (replicate 144 105) ∷ Swap (replicate 144 1) ∷ Frame 2048 ∷ scans 3 (showing 0 4) ++ reads 1)
+    (Scan [] ∷ Swap [] ∷ Swap (replicate 144 (suc lastKey)) ∷ Swap (replicate 144 1) ∷ Frame 2048 ∷ scans 3 (showing 0 4) ++ reads 1)
     (agreeing (0x1e ∷ []) (3 ∷ []))
 
 -- All of them.

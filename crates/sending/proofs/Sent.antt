@@ -15,7 +15,8 @@ use Rattle.queue.specs.Queues.{contents}
 use Rattle.queue.proofs.Meaning.{contents-holding}
 use Rattle.record.specs.declared.Mode.{Mode}
 use Rattle.record.specs.declared.Keys.{Keys}
-use Rattle.sending.specs.Sending.{flagOf, modifiersOf, numLock, sends}
+use Rattle.record.specs.Held.{flagOf, modifiersOf}
+use Rattle.sending.specs.Sending.{numLock, sends}
 
 module _ (k : Keys) (m : Mode) (type key : ℕ) (action : Action) where
   pub sends-short : length (sends k m type key action) ≤ 8

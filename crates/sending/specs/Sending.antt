@@ -1,9 +1,8 @@
 -- What a key sends now, and how it is queued (docs/RULES.md, sections 3 and 7). Assumes nothing.
-use Prim.Native.Nat.{ℕ, _+_, _*_, _/_, _%_}
+use Prim.Native.Nat.{ℕ, _/_, _%_}
 use mathlib.Core.Bool.{Bool}
 use mathlib.Core.List.{List}
 use lib.Dec.{eqb}
-use lib.ListN.{getD}
 use Rattle.basics.specs.Choice.{pick}
 use Rattle.codes.specs.declared.Action.{Action}
 use Rattle.codes.specs.Codes.{encode}
@@ -12,16 +11,7 @@ use Rattle.queue.specs.declared.Queue.{Queue}
 use Rattle.queue.specs.Queues.{waiting, queueOf, pushedTo}
 use Rattle.record.specs.declared.Mode.{Mode}
 use Rattle.record.specs.declared.Keys.{Keys}
-
--- A flag that is not 0 counts 1.
-abbrev pub flagOf : ℕ → ℕ
-flagOf flag = pick (eqb flag 0) 0 1
-
--- The modifier keys among the held ones, as the encoder takes them.
-unfoldable pub modifiersOf : List ℕ → ℕ
-modifiersOf held =
-    flagOf (getD held 42 0) + 2 * flagOf (getD held 53 0) + 4 * flagOf (getD held 54 0)
-    + 8 * flagOf (getD held 58 0) + 16 * flagOf (getD held 55 0) + 32 * flagOf (getD held 57 0)
+use Rattle.record.specs.Held.{modifiersOf}
 
 -- Num Lock is an indicator.
 abbrev pub numLock : ℕ → Bool

@@ -3,6 +3,7 @@ use codes::Action;
 use codes::Sequence;
 use keys::Table;
 use queue::Queue;
+use record::Held;
 use record::Mode;
 ghost use mathlib.Core.Path.{_≡_};
 ghost use mathlib.Core.Bool.{true, not};
@@ -15,7 +16,8 @@ ghost use Rattle.codes.specs.Sequences.{holding};
 ghost use Rattle.keys.specs.Keys.{markOf, laidOut};
 ghost use Rattle.queue.specs.Queues.{queueWith, tidy, contents};
 ghost use Rattle.record.specs.Range.{goodMode};
-ghost use Rattle.sending.specs.Sending.{flagOf, modifiersOf, numLock, sendsWith, queuedOf, shortestRelease};
+ghost use Rattle.record.specs.Held.{flagOf, modifiersOf};
+ghost use Rattle.sending.specs.Sending.{numLock, sendsWith, queuedOf, shortestRelease};
 
 // A flag that is up counts 1.
 fn flag(x: u8) -> u8
@@ -35,7 +37,7 @@ fn pair(low: u8, high: u8) -> u8
 }
 
 // The modifier keys among the held ones: SHIFT, CTRL and ALT, the left one the lower bit of each pair.
-fn modifiers_of(held: &[u8; 144]) -> u8
+fn modifiers_of(held: &Held) -> u8
     ensures { λ r. ⌜ r ≡ modifiersOf (now (held .entry)) ⌝ }
 {
     let shift = pair(held[42], held[53]);
@@ -52,7 +54,7 @@ fn num_lock(indicators: u8) -> bool
 }
 
 // The bytes that an action of a key sends.
-pub fn bytes_of(held: &[u8; 144], m: Mode, kind: u8, key: u8, action: Action) -> Sequence
+pub fn bytes_of(held: &Held, m: Mode, kind: u8, key: u8, action: Action) -> Sequence
     ensures { λ r. ⌜ r ≡ holding (sendsWith (now (held .entry)) m kind key action) ⌝ }
 {
     codes::strokes::sequence_of(
@@ -66,7 +68,7 @@ pub fn bytes_of(held: &[u8; 144], m: Mode, kind: u8, key: u8, action: Action) ->
 }
 
 // The same by a key table at hand. A key of one form does not ask what else is held.
-fn bytes_in(held: &[u8; 144], table: &Table, m: Mode, kind: u8, key: u8, action: Action) -> Sequence
+fn bytes_in(held: &Held, table: &Table, m: Mode, kind: u8, key: u8, action: Action) -> Sequence
     requires { ⌜ now table ≡ laidOut ⌝ }
     ensures { λ r. ⌜ r ≡ holding (sendsWith (now (held .entry)) m kind key action) ⌝ }
 {
@@ -127,7 +129,7 @@ fn shortest_release(set: u8) -> usize
 // What a press sends goes behind the first `at` of the bytes, and so many wait then. A press sends something, and a full queue takes
 // nothing, so there the mark is put without asking what.
 pub fn send_press(
-    held: &[u8; 144],
+    held: &Held,
     bytes: &mut [u8; 16],
     at: usize,
     table: &Table,
@@ -148,7 +150,7 @@ pub fn send_press(
 
 // What a release sends, likewise: nothing changes if it is silent, and where the shortest has no room the mark is put.
 pub fn send_release(
-    held: &[u8; 144],
+    held: &Held,
     bytes: &mut [u8; 16],
     at: usize,
     table: &Table,

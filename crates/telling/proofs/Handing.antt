@@ -12,18 +12,20 @@ use lib.Dec.{eqb, leb}
 use lib.ListN.{length, getD, set}
 use lib.Seq.{getD-set-other}
 use Rattle.basics.specs.Choice.{pick, either}
+use Rattle.keys.specs.Keys.{lastKey}
 use Rattle.codes.specs.declared.Action.the-variants.{Release}
 use Rattle.queue.specs.Queues.{waiting}
 use Rattle.queue.proofs.Room.{no-room-waits}
-use Rattle.sending.specs.Sending.{flagOf, sends}
+use Rattle.sending.specs.Sending.{sends}
 use Rattle.sending.proofs.Sent.{sends-short}
 use Rattle.keying.specs.declared.Handed.{Handed}
 use Rattle.keying.specs.Moves.{releasedWith, released}
-use Rattle.keying.specs.Handover.{isHeld, canLeave, handedFrom}
+use Rattle.keying.specs.Handover.{canLeave, handedFrom}
 use Rattle.keying.proofs.Kept.{handed-keeps}
 use Rattle.record.specs.declared.Mode.{Mode}
 use Rattle.record.specs.declared.Keys.{Keys}
-use Rattle.telling.specs.Agreeing.{Outside, heldTo}
+use Rattle.record.specs.Held.{isHeld, flagOf, heldTo}
+use Rattle.telling.specs.Agreeing.{Outside}
 use Rattle.basics.proofs.Cases.{by-cases, never, neither-first, neither-second}
 
 -- A flag that is taken down is down, also where there is no place for one,
@@ -128,14 +130,14 @@ module _ (m : Mode) (types : List ℕ) where
       go (yes e) later = passed-gone n key k j e
       go (no e) later = later (omega arith) (omega arith)
 
-  pub handed-all : (k : Keys) → Outside (k .held) → handedFrom 104 1 k m types .unfinished ≡ false
-      → (j : ℕ) → getD (handedFrom 104 1 k m types .keys .held) j 0 ≡ 0
-  handed-all k out done zero = handed-down 104 1 k 0 (out 0 (inl refl))
-  handed-all k out done (suc j) = go (leb (suc j) 104) refl
+  pub handed-all : (k : Keys) → Outside (k .held) → handedFrom lastKey 1 k m types .unfinished ≡ false
+      → (j : ℕ) → getD (handedFrom lastKey 1 k m types .keys .held) j 0 ≡ 0
+  handed-all k out done zero = handed-down lastKey 1 k 0 (out 0 (inl refl))
+  handed-all k out done (suc j) = go (leb (suc j) lastKey) refl
     where
-      go : (b : Bool) → leb (suc j) 104 ≡ b → getD (handedFrom 104 1 k m types .keys .held) (suc j) 0 ≡ 0
-      go true e = handed-finished 104 1 k done (suc j) (omega arith) (omega (arith, leb-true (suc j) 104 e))
-      go false e = handed-down 104 1 k (suc j) (out (suc j) (inr (leb-false (suc j) 104 e)))
+      go : (b : Bool) → leb (suc j) lastKey ≡ b → getD (handedFrom lastKey 1 k m types .keys .held) (suc j) 0 ≡ 0
+      go true e = handed-finished lastKey 1 k done (suc j) (omega arith) (omega (arith, leb-true (suc j) lastKey e))
+      go false e = handed-down lastKey 1 k (suc j) (out (suc j) (inr (leb-false (suc j) lastKey e)))
 
   -- Where it stops there is no room: more than half the queue waits.
   pub handed-waits : (n key : ℕ) (k : Keys) → handedFrom n key k m types .unfinished ≡ true

@@ -13,6 +13,7 @@ use lib.ListN.{length, getD, replicate, length-set}
 use lib.Seq.{getD-set-same, getD-set-other}
 use Rattle.basics.specs.Lists.{allUpTo}
 use Rattle.basics.proofs.Limits.{up-to-at}
+use Rattle.keys.specs.Keys.{lastKey}
 use Rattle.contacts.specs.Scans.{contact}
 use Rattle.contacts.proofs.Pointwise.{contact-small}
 use Rattle.keying.specs.Moves.{pressed, releasedWith, released, moved, turned, turnsTo}
@@ -77,11 +78,11 @@ module _ (m : Mode) where
           turned-other n (contact was n) (contact is n) (turnsTo n m types map was is k) j (none n (omega arith))
           ∙ turns-other n j (λ p h. none p (omega arith))
 
-      pub turns-flags : length (k .held) ≡ 144 → allUpTo 104 map ≡ true → (n : ℕ) → length (turnsTo n m types map was is k .held) ≡ 144
+      pub turns-flags : length (k .held) ≡ 144 → allUpTo lastKey map ≡ true → (n : ℕ) → length (turnsTo n m types map was is k .held) ≡ 144
       turns-flags flags limit n =
           turns-keep Flags m released-flags (λ k type key h p. pressed-flags k type key p) types map limit n was is k flags
 
-      module _ (flags : length (k .held) ≡ 144) (limit : allUpTo 104 map ≡ true) (once : Once map) where
+      module _ (flags : length (k .held) ≡ 144) (limit : allUpTo lastKey map ≡ true) (once : Once map) where
         -- A key whose contact is below the position shows what the contact is.
         pub turns-own : (p : ℕ) → (getD map p 0 ≡ 0 → ⊥) → getD (k .held) (getD map p 0) 0 ≡ contact was p
             → (n : ℕ) → p < n → n ≤ 144 → getD (turnsTo n m types map was is k .held) (getD map p 0) 0 ≡ contact is p
@@ -92,7 +93,7 @@ module _ (m : Mode) where
             go : Dec (p ≡ n) → (p < n → getD (turnsTo n m types map was is k .held) (getD map p 0) 0 ≡ contact is p)
                 → getD (turnsTo (suc n) m types map was is k .held) (getD map p 0) 0 ≡ contact is p
             go (yes e) earlier =
-                let low : getD map p 0 ≤ 104 = up-to-at 104 map p limit in
+                let low : getD map p 0 ≤ lastKey = up-to-at lastKey map p limit in
                 let long = turns-flags flags limit p in
                 let still = turns-other p (getD map p 0) (λ q l s o. let same = once q p (omega arith) (omega arith) o s in omega arith) in
                 rw (← e)

@@ -6,16 +6,17 @@ use Prim.Native.Nat.{ℕ, zero, suc, _+_, _*_, _≤_, _<_}
 use native.Mathlib.Omega.{arith}
 use lib.ListN.{length, getD, set, length-append}
 use Rattle.basics.specs.Choice.{pick, either}
+use Rattle.keys.specs.Keys.{lastKey}
 use Rattle.codes.specs.declared.Action.the-variants.{Release}
 use Rattle.queue.specs.Queues.{waiting}
 use Rattle.sending.specs.Sending.{sends}
 use Rattle.sending.proofs.Sent.{sends-short, flag-small}
 use Rattle.keying.specs.declared.Handed.{Handed}
 use Rattle.keying.specs.Moves.{releasedWith, released}
-use Rattle.keying.specs.Handover.{isHeld, canLeave, handedFrom}
+use Rattle.keying.specs.Handover.{canLeave, handedFrom}
 use Rattle.record.specs.declared.Mode.{Mode}
 use Rattle.record.specs.declared.Keys.{Keys}
-use Rattle.telling.specs.Agreeing.{heldTo, heldCount}
+use Rattle.record.specs.Held.{isHeld, heldTo, heldCount}
 use Rattle.basics.proofs.Cases.{by-cases}
 use Rattle.telling.proofs.Handing.{down-own, down-any, held-up, fewer-held}
 use Rattle.telling.proofs.Whole.{released-whole}
@@ -31,7 +32,7 @@ held-most zero held = omega arith
 held-most (suc n) held = omega (arith, held-most n held, flag-small (getD held (suc n) 0) _ refl)
 
 module _ (m : Mode) (types : List ℕ) where
-  released-less : (k : Keys) (key : ℕ) → 1 ≤ key → key ≤ 104 → isHeld k key ≡ true → canLeave k m types key ≡ true
+  released-less : (k : Keys) (key : ℕ) → 1 ≤ key → key ≤ lastKey → isHeld k key ≡ true → canLeave k m types key ≡ true
       → toRead (released k m (getD types key 0) key) ≤ toRead k
   unfolding released releasedWith
   released-less k key low high held leaves =
@@ -40,10 +41,10 @@ module _ (m : Mode) (types : List ℕ) where
       let more : length (waiting (released k m type key .queue)) ≡ length (waiting (k .queue)) + length bytes =
       ap length (released-whole m k type key leaves) ∙ length-append (waiting (k .queue)) bytes in
       let fewer : heldCount (set (k .held) key 0) < heldCount (k .held) =
-      fewer-held (k .held) (set (k .held) key 0) (down-any (k .held) key) key low (held-up k key held) (down-own (k .held) key) 104 high in
+      fewer-held (k .held) (set (k .held) key 0) (down-any (k .held) key) key low (held-up k key held) (down-own (k .held) key) lastKey high in
       omega (arith, sends-short k m type key Release)
 
-  pub handed-less : (n key : ℕ) → 1 ≤ key → key + n ≤ 105 → (k : Keys) → toRead (handedFrom n key k m types .keys) ≤ toRead k
+  pub handed-less : (n key : ℕ) → 1 ≤ key → key + n ≤ suc lastKey → (k : Keys) → toRead (handedFrom n key k m types .keys) ≤ toRead k
   unfolding handedFrom
   handed-less zero key low high k = omega arith
   handed-less (suc n) key low high k =

@@ -11,6 +11,7 @@ use lib.ListN.{length, getD}
 use lib.Seq.{getD-set-same, getD-set-other}
 use Rattle.basics.specs.Lists.{allUpTo}
 use Rattle.basics.proofs.Limits.{up-to-at}
+use Rattle.keys.specs.Keys.{lastKey}
 use Rattle.codes.specs.Codes.{mayRepeat}
 use Rattle.keying.specs.Repeat.{isDue, repeated}
 use Rattle.keying.specs.Moves.{pressed, releasedWith, released, turnsTo}
@@ -45,7 +46,7 @@ module _ (m : Mode) where
       (λ held. inr (getD-set-other (k .held) key (k .repeating) 0 0 (eqb-false (k .repeating) key e) ∙ held))
       some)
 
-  pub turns-repeat : (types map : List ℕ) → allUpTo 104 map ≡ true → (n : ℕ) (was is : List ℕ) (k : Keys)
+  pub turns-repeat : (types map : List ℕ) → allUpTo lastKey map ≡ true → (n : ℕ) (was is : List ℕ) (k : Keys)
       → length (k .held) ≡ 144 → Repeats k → Repeats (turnsTo n m types map was is k)
   turns-repeat types map limit n was is k long some =
       let kept = turns-keep Kept m (λ k type key p. (released-flags m k type key (p .0), released-repeats k type key (p .1)))
@@ -71,10 +72,10 @@ module _ (m : Mode) where
       some
 
   -- Turned contacts put no flag up where there is no key; of a handover see Handing.
-  pub turns-outside : (types map : List ℕ) → allUpTo 104 map ≡ true → (n : ℕ) (was is : List ℕ) (k : Keys)
+  pub turns-outside : (types map : List ℕ) → allUpTo lastKey map ≡ true → (n : ℕ) (was is : List ℕ) (k : Keys)
       → Outside (k .held) → Outside (turnsTo n m types map was is k .held)
   turns-outside types map limit n was is k out key h =
       turns-other m types map was is k n key
       (λ p b some e.
-      ⊎-elim (λ z. some (e ∙ z)) (λ o. let most = up-to-at 104 map p limit in absurd (omega arith)) h)
+      ⊎-elim (λ z. some (e ∙ z)) (λ o. let most = up-to-at lastKey map p limit in absurd (omega arith)) h)
       ∙ out key h

@@ -13,6 +13,7 @@ use Rattle.basics.specs.Choice.{either}
 use Rattle.basics.specs.Lists.{allUpTo}
 use Rattle.basics.proofs.Flags.{left-of-both}
 use Rattle.basics.proofs.Limits.{up-to-at}
+use Rattle.keys.specs.Keys.{lastKey}
 use Rattle.codes.specs.declared.Action.the-variants.{Press, Release}
 use Rattle.codes.specs.Codes.{mayRepeat}
 use Rattle.queue.specs.declared.Queue.{Queue}
@@ -21,11 +22,12 @@ use Rattle.queue.proofs.Meaning.{waiting-queueOf}
 use Rattle.record.specs.declared.Mode.{Mode}
 use Rattle.record.specs.declared.Keys.{Keys}
 use Rattle.record.specs.Parts.{withQueue}
-use Rattle.sending.specs.Sending.{modifiersOf, numLock, sends}
+use Rattle.record.specs.Held.{isHeld, modifiersOf}
+use Rattle.sending.specs.Sending.{numLock, sends}
 use Rattle.keying.specs.declared.Handed.{Handed}
 use Rattle.keying.specs.Moves.{pressed, releasedWith, released, turnsTo}
 use Rattle.keying.specs.Repeat.{ticked, isDue, repeated}
-use Rattle.keying.specs.Handover.{isHeld, canLeave, handedFrom}
+use Rattle.keying.specs.Handover.{canLeave, handedFrom}
 use Rattle.terminal.specs.Terminals.{Terminal, terminal, hears, hearsAll}
 use Rattle.terminal.proofs.Hearing.{hears-more, hears-first}
 use Rattle.terminal.proofs.Heard.{press-heard, release-heard, repeat-heard}
@@ -63,7 +65,7 @@ module _ (m : Mode) (h : (m .set ≡ 1) ⊎ (m .set ≡ 2)) (t : Terminal) where
       → hearsAll (m .set) t after ≡ hearsAll (m .set) (terminal 0 (set (k .held) 101 0)) bytes
   behind k bytes after e p = rw (e, hears-more (m .set) t (waiting (k .queue)) bytes, p .told)
 
-  pub pressed-told : (k : Keys) (type key : ℕ) → 1 ≤ key → key ≤ 104 → Fits k m type key Press
+  pub pressed-told : (k : Keys) (type key : ℕ) → 1 ≤ key → key ≤ lastKey → Fits k m type key Press
       → Told (m .set) t k → Told (m .set) t (pressed k m type key)
   unfolding pressed sends
   pressed-told k type key low high room p =
@@ -72,7 +74,7 @@ module _ (m : Mode) (h : (m .set ≡ 1) ⊎ (m .set ≡ 2)) (t : Terminal) where
             ∙ press-heard (m .set) h key low high type (modifiersOf (k .held)) (numLock (m .indicators)) (k .held);
       }
 
-  pub released-told : (k : Keys) (type key : ℕ) → 1 ≤ key → key ≤ 104 → Fits k m type key Release
+  pub released-told : (k : Keys) (type key : ℕ) → 1 ≤ key → key ≤ lastKey → Fits k m type key Release
       → Told (m .set) t k → Told (m .set) t (released k m type key)
   unfolding released releasedWith sends
   released-told k type key low high room p =
@@ -82,7 +84,7 @@ module _ (m : Mode) (h : (m .set ≡ 1) ⊎ (m .set ≡ 2)) (t : Terminal) where
       }
 
   module _ (types : List ℕ) where
-    pub turns-told : (map : List ℕ) → allUpTo 104 map ≡ true → (n : ℕ) (was is : List ℕ) (k : Keys) → overrunsTo n m types map was is k ≡ false
+    pub turns-told : (map : List ℕ) → allUpTo lastKey map ≡ true → (n : ℕ) (was is : List ℕ) (k : Keys) → overrunsTo n m types map was is k ≡ false
         → Told (m .set) t k → Told (m .set) t (turnsTo n m types map was is k)
     unfolding turnsTo overrunsTo
     turns-told map a zero was is k fits p = p
@@ -93,11 +95,11 @@ module _ (m : Mode) (h : (m .set ≡ 1) ⊎ (m .set ≡ 2)) (t : Terminal) where
         let key = getD map n 0 in
         let q = turns-told map a n was is k (neither-first before now fits) p in
         each-turn (λ (e : Keys) (bytes : List ℕ). Told (m .set) t e) m types so-far q key
-        (λ low room. pressed-told so-far (getD types key 0) key low (up-to-at 104 map n a) room q)
-        (λ low room. released-told so-far (getD types key 0) key low (up-to-at 104 map n a) room q)
+        (λ low room. pressed-told so-far (getD types key 0) key low (up-to-at lastKey map n a) room q)
+        (λ low room. released-told so-far (getD types key 0) key low (up-to-at lastKey map n a) room q)
         map was is n refl (neither-second before now fits)
 
-    pub handed-told : (n key : ℕ) → 1 ≤ key → key + n ≤ 105 → (k : Keys)
+    pub handed-told : (n key : ℕ) → 1 ≤ key → key + n ≤ suc lastKey → (k : Keys)
         → Told (m .set) t k → Told (m .set) t (handedFrom n key k m types .keys)
     unfolding handedFrom
     handed-told zero key low high k p = p
@@ -110,7 +112,7 @@ module _ (m : Mode) (h : (m .set ≡ 1) ⊎ (m .set ≡ 2)) (t : Terminal) where
         (λ stays. p)
 
     -- A repeat is sent where nothing waits, and of a key that is held.
-    pub repeated-told : (k : Keys) (quiet : Bool) → (k .repeating ≡ 0) ⊎ (getD (k .held) (k .repeating) 0 ≡ 1) → k .repeating ≤ 104
+    pub repeated-told : (k : Keys) (quiet : Bool) → (k .repeating ≡ 0) ⊎ (getD (k .held) (k .repeating) 0 ≡ 1) → k .repeating ≤ lastKey
         → (quiet ≡ true → waiting (k .queue) ≡ []) → Told (m .set) t k → Told (m .set) t (repeated k m types quiet)
     unfolding repeated sends
     repeated-told k quiet held high none p =

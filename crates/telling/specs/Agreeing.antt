@@ -1,13 +1,13 @@
 -- What the flags of the held keys have to do with the contacts, with the map and with the key that repeats (docs/RULES.md, sections
 -- 5 and 6). Assumes nothing.
-use Prim.Native.Nat.{ℕ, zero, suc, _+_, _<_}
+use Prim.Native.Nat.{ℕ, _<_}
 use mathlib.Core.Path.{_≡_}
 use mathlib.Core.Logic.{_⊎_}
 use mathlib.Core.List.{List}
 use lib.ListN.{getD}
+use Rattle.keys.specs.Keys.{lastKey}
 use Rattle.contacts.specs.Scans.{contact}
 use Rattle.record.specs.declared.Keys.{Keys}
-use Rattle.sending.specs.Sending.{flagOf}
 
 -- The held keys are those whose contacts count as closed; a key that stands nowhere on the map is not held.
 pub record Agrees (map closed held : List ℕ) : Type 0 where
@@ -21,17 +21,8 @@ Once map = (p q : ℕ) → p < 144 → q < 144 → getD map p 0 ≡ getD map q 0
 
 -- No flag is up where there is no key.
 abbrev pub Outside : List ℕ → Type 0
-Outside held = (key : ℕ) → (key ≡ 0) ⊎ (104 < key) → getD held key 0 ≡ 0
+Outside held = (key : ℕ) → (key ≡ 0) ⊎ (lastKey < key) → getD held key 0 ≡ 0
 
 -- The key that repeats, if one does, is held.
 abbrev pub Repeats : Keys → Type 0
 Repeats k = (k .repeating ≡ 0) ⊎ (getD (k .held) (k .repeating) 0 ≡ 1)
-
--- How many of the keys 1 to n are held,
-unfoldable pub heldTo : ℕ → List ℕ → ℕ
-heldTo zero held = 0
-heldTo (suc n) held = heldTo n held + flagOf (getD held (suc n) 0)
-
--- and of all keys.
-abbrev pub heldCount : List ℕ → ℕ
-heldCount held = heldTo 104 held

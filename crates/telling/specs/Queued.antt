@@ -9,9 +9,10 @@ use Rattle.basics.specs.Choice.{pick, either}
 use Rattle.codes.specs.declared.Action.the-variants.{Release}
 use Rattle.contacts.specs.Scans.{contact}
 use Rattle.keying.specs.Moves.{released, turnsTo}
-use Rattle.keying.specs.Handover.{isHeld, canLeave}
+use Rattle.keying.specs.Handover.{canLeave}
 use Rattle.record.specs.declared.Mode.{Mode}
 use Rattle.record.specs.declared.Keys.{Keys}
+use Rattle.record.specs.Held.{isHeld}
 use Rattle.sending.specs.Sending.{sends}
 use Rattle.telling.specs.Overruns.{actionTo}
 

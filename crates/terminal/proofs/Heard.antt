@@ -9,6 +9,7 @@ use native.Mathlib.Decide.{ℕ-discrete}
 use borrow.Author.Tests.{ne-eqb}
 use lib.ListN.{set, getD}
 use lib.Seq.{set-set, set-comm, set-getD}
+use Rattle.keys.specs.Keys.{lastKey}
 use Rattle.codes.specs.declared.Action.{Action}
 use Rattle.codes.specs.declared.Action.the-variants.{Press, Release, Repeat}
 use Rattle.codes.specs.Codes.{encode, formOf, sendsRelease, mayRepeat}
@@ -51,7 +52,7 @@ module _ (held : List ℕ) (key type : ℕ) where
       (λ e. rw e)
       (λ n. rw (ne-eqb key 101 n) (sym (set-comm held key 101 1 0 n) ∙ ap (λ (l : List ℕ). set l 101 0) still))
 
-module _ (s : ℕ) (h : (s ≡ 1) ⊎ (s ≡ 2)) (key : ℕ) (low : 1 ≤ key) (high : key ≤ 104) (type modifiers : ℕ) (lock : Bool)
+module _ (s : ℕ) (h : (s ≡ 1) ⊎ (s ≡ 2)) (key : ℕ) (low : 1 ≤ key) (high : key ≤ lastKey) (type modifiers : ℕ) (lock : Bool)
     (held : List ℕ) where
   heard : (action : Action) (down : List ℕ)
       → hearsAll s (terminal 0 down) (encode s key action type modifiers lock) ≡ terminal 0 (noticedAll (wanted 1 key action type) down)

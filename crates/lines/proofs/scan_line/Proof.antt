@@ -1,5 +1,5 @@
 -- `lines::scan_line` meets its contract: it is the scan call on the bytes of the line, printed. Assumes nothing.
-use mathlib.Core.Path.{_≡_, ap, _∙_}
+use mathlib.Core.Path.{ap, _∙_}
 use mathlib.Core.List.{List}
 use Prim.Native.Nat.{ℕ}
 use borrow.Author.Needs.{needs}

@@ -1,13 +1,14 @@
 -- `maps::has_double` meets its contract. The loop's invariant: the map has a double if one was met, or if the entries from p on show
 -- one, a key that has its mark or one that stands twice among them; there are 105 places for marks, and 0 has none. The measure is what is left of the 144.
 -- Assumes nothing.
-use Prim.Native.Nat.{_-_, _≤_}
+use Prim.Native.Nat.{suc, _-_, _≤_}
 use mathlib.Core.Path.{_≡_, refl}
 use mathlib.Core.Logic.{⊎-elim}
 use native.Mathlib.Omega.{arith}
 use lib.ListN.{length, drop, getD, length-set}
 use Rattle.basics.specs.Choice.{either}
 use Rattle.basics.proofs.Limits.{up-to-at}
+use Rattle.keys.specs.Keys.{lastKey}
 use Rattle.maps.specs.Maps.{hasDouble}
 use Rattle.maps.proofs.Marks.{toFind, double-none, zero-unmarked, double-met, double-not-met, double-end}
 use Rattle.maps.proofs.has_double.Statement.{statement}
@@ -15,7 +16,7 @@ use Rattle.maps.proofs.has_double.Tie as tie
 
 abbrev Inv-loop : tie.InvT-loop
 Inv-loop map seen₀ double₀ p₀ seen double p =
-    (p ≤ 144) × (length seen ≡ 105) × (getD seen 0 0 ≡ 0) × (hasDouble map ≡ either double (toFind seen (drop p map)))
+    (p ≤ 144) × (length seen ≡ suc lastKey) × (getD seen 0 0 ≡ 0) × (hasDouble map ≡ either double (toFind seen (drop p map)))
 
 abbrev μ-loop : tie.MeasureT-loop
 μ-loop map seen₀ double₀ p₀ seen double p = 144 - p
@@ -29,17 +30,17 @@ element-copy-out-k c = omega arith
 cast-at : tie.Need-cast-at Inv-loop μ-loop
 cast-at c =
     let l = c .before .before in
-    omega (arith, up-to-at 104 (l .before .args .map .now) (l .loop .p) (l .before .pre .1))
+    omega (arith, up-to-at lastKey (l .before .args .map .now) (l .loop .p) (l .before .pre .1))
 
 array-read-if1 : tie.Need-array-read-if1 Inv-loop μ-loop
 array-read-if1 c =
     let l = c .before .before in
-    omega (arith, up-to-at 104 (l .before .args .map .now) (l .loop .p) (l .before .pre .1))
+    omega (arith, up-to-at lastKey (l .before .args .map .now) (l .loop .p) (l .before .pre .1))
 
 array-write-seen : tie.Need-array-write-seen Inv-loop μ-loop
 array-write-seen c =
     let l = c .before .before .before in
-    omega (arith, up-to-at 104 (l .before .args .map .now) (l .loop .p) (l .before .pre .1))
+    omega (arith, up-to-at lastKey (l .before .args .map .now) (l .loop .p) (l .before .pre .1))
 
 add-p : tie.Need-add-p Inv-loop μ-loop
 add-p c = omega arith
@@ -51,7 +52,7 @@ loop-again : tie.Need-loop-again Inv-loop μ-loop
 loop-again c =
     let l = c .before .before .before in
     let map = l .before .args .map .now in
-    let key = up-to-at 104 map (l .loop .p) (l .before .pre .1) in (
+    let key = up-to-at lastKey map (l .loop .p) (l .before .pre .1) in (
       omega arith,
       simp length-set (l .loop .inv .1),
       zero-unmarked (l .loop .seen) _ (l .loop .inv .2),

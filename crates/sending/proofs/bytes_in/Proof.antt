@@ -2,7 +2,8 @@
 use mathlib.Core.Path.{sym, _∙_}
 use borrow.Author.Needs.{needs}
 use borrow.Author.Tests.{not-true}
-use Rattle.sending.specs.Sending.{modifiersOf, numLock}
+use Rattle.record.specs.Held.{modifiersOf}
+use Rattle.sending.specs.Sending.{numLock}
 use Rattle.sending.proofs.bytes_in.Statement.{statement}
 use Rattle.sending.proofs.bytes_in.Tie as tie
 

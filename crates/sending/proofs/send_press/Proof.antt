@@ -3,7 +3,8 @@ use borrow.Author.Needs.{needs}
 use Rattle.codes.specs.declared.Action.the-variants.{Press}
 use Rattle.queue.specs.Queues.{queueWith}
 use Rattle.record.specs.Parts.{keys}
-use Rattle.sending.specs.Sending.{modifiersOf, numLock, sends}
+use Rattle.record.specs.Held.{modifiersOf}
+use Rattle.sending.specs.Sending.{numLock, sends}
 use Rattle.sending.proofs.Sent.{sequence-short, sequence-is}
 use Rattle.sending.proofs.Silence.{press-some, full-marks, pushed-queues}
 use Rattle.sending.proofs.send_press.Statement.{statement}

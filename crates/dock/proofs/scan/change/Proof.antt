@@ -1,8 +1,6 @@
 -- `dock::scan::change` meets its contract: at rest, and where the scan is phantom, nothing changes; else the scan is counted. Assumes nothing.
 use native.Mathlib.Omega.{arith}
 use borrow.Author.Needs.{needs}
-use borrow.Author.Tests.{not-false}
-use mathlib.Core.Bool.{false}
 use Rattle.record.specs.Apart.{dockWith}
 use Rattle.dock.proofs.Resting.{rest-changes-nothing}
 use Rattle.dock.proofs.Scanning.{phantom-changes-nothing, believed-is-counted}

@@ -1,10 +1,9 @@
 -- `dock::scan::hear` meets its contract: the repeat follows the changes, and they the tick. Assumes nothing.
-use mathlib.Core.Path.{_≡_, ap, _∙_}
+use mathlib.Core.Path.{ap, _∙_}
 use borrow.Author.Needs.{needs}
 use Rattle.record.specs.declared.Keys.{Keys}
 use Rattle.record.specs.Apart.{keysWith, dockWith}
 use Rattle.record.specs.Parts.{withKeys}
-use Rattle.keying.specs.Repeat.{ticked}
 use Rattle.dock.specs.Scan.{changed}
 use Rattle.dock.proofs.InRange.{rest-in-range, ticked-in-range, changed-leaves-range}
 use Rattle.dock.proofs.Scanning.{heard-whole}

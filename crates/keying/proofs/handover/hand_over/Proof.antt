@@ -2,10 +2,11 @@
 -- same handover of the keys as they are, from that key on. The measure is what is left of the keys. Assumes nothing.
 use mathlib.Core.Path.{ap₂, _∙_}
 use mathlib.Core.Logic.{⊎-elim}
-use Prim.Native.Nat.{_+_, _-_, _≤_}
+use Prim.Native.Nat.{suc, _+_, _-_, _≤_}
 use native.Mathlib.Omega.{arith}
 use borrow.Author.Needs.{needs}
 use borrow.Author.Tests.{not-true, not-false}
+use Rattle.keys.specs.Keys.{lastKey}
 use Rattle.codes.specs.declared.Action.the-variants.{Release}
 use Rattle.queue.proofs.Meaning.{tidy-short}
 use Rattle.record.specs.Apart.{keysWith}
@@ -17,10 +18,10 @@ use Rattle.keying.proofs.handover.hand_over.Statement.{statement}
 use Rattle.keying.proofs.handover.hand_over.Tie as tie
 
 abbrev Inv-loop : tie.InvT-loop
-Inv-loop held₀ m types e₀ key₀ held e key = (key ≤ 105) × Going m types (keysWith held₀ e₀) key (keysWith held e)
+Inv-loop held₀ m types e₀ key₀ held e key = (key ≤ suc lastKey) × Going m types (keysWith held₀ e₀) key (keysWith held e)
 
 abbrev μ-loop : tie.MeasureT-loop
-μ-loop held₀ m types e₀ key₀ held e key = 105 - key
+μ-loop held₀ m types e₀ key₀ held e key = suc lastKey - key
 
 loop-holds : tie.Need-loop-holds Inv-loop μ-loop
 loop-holds c = (omega arith, begins _ _ (keysWith (c .args .held .now) (c .args .o)) (c .pre .0))

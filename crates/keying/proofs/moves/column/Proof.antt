@@ -8,6 +8,7 @@ use lib.Bits.{xor-lt}
 use lib.Count.{trailing-le}
 use lib.ListN.{length}
 use Rattle.basics.proofs.Limits.{up-to-at}
+use Rattle.keys.specs.Keys.{lastKey}
 use Rattle.record.specs.declared.Keys.{Keys}
 use Rattle.record.specs.Range.{goodKeys}
 use Rattle.keying.specs.Moves.{keysTold, rowsTo}
@@ -62,7 +63,7 @@ contact-turned-requires : tie.Need-contact-turned-requires Inv-loop μ-loop
 contact-turned-requires c κs =
     let l = c .before .before .before .before in
     let p = l .before .pre in
-    (l .loop .inv .1, p .1, l .loop .inv .2, up-to-at 104 _ _ (p .4), p .5)
+    (l .loop .inv .1, p .1, l .loop .inv .2, up-to-at lastKey _ _ (p .4), p .5)
 
 sub-turned : tie.Need-sub-turned Inv-loop μ-loop
 sub-turned c = omega arith
@@ -79,8 +80,8 @@ loop-again c =
     let i = l .loop .inv in
     let e = keysTold (l .loop .held) (l .loop .bytes) (l .loop .e) in
     let after = c .contact-turned .ensures in
-    let good = ap goodKeys after ∙ moved-good (a .m) (p .1) (a .types .now) _ _ (up-to-at 104 _ _ (p .4)) e (i .1) in
-    let places = ap (λ (k : Keys). length (k .queue .bytes)) after ∙ moved-bytes (a .m) (a .types .now) _ _ (up-to-at 104 _ _ (p .4)) e (i .2) in
+    let good = ap goodKeys after ∙ moved-good (a .m) (p .1) (a .types .now) _ _ (up-to-at lastKey _ _ (p .4)) e (i .1) in
+    let places = ap (λ (k : Keys). length (k .queue .bytes)) after ∙ moved-bytes (a .m) (a .types .now) _ _ (up-to-at lastKey _ _ (p .4)) e (i .2) in
     (omega (arith, fewer t (omega arith)), good, places, row-moved _ _ _ _ _ _ e t (i .3) (omega arith) (i .0) _ after)
 
 returns : tie.Need-returns Inv-loop μ-loop

@@ -1,0 +1,32 @@
+-- The flags of the held keys (docs/RULES.md, sections 3 and 5). Assumes nothing.
+use Prim.Native.Nat.{ℕ, zero, suc, _+_, _*_}
+use mathlib.Core.Bool.{Bool, not}
+use mathlib.Core.List.{List}
+use lib.Dec.{eqb}
+use lib.ListN.{getD}
+use Rattle.basics.specs.Choice.{pick}
+use Rattle.keys.specs.Keys.{lastKey}
+use Rattle.record.specs.declared.Keys.{Keys}
+
+-- A key is held.
+abbrev pub isHeld : Keys → ℕ → Bool
+isHeld k key = not (eqb (getD (k .held) key 0) 0)
+
+-- A flag that is not 0 counts 1.
+abbrev pub flagOf : ℕ → ℕ
+flagOf flag = pick (eqb flag 0) 0 1
+
+-- The modifier keys among the held ones, as the encoder takes them.
+unfoldable pub modifiersOf : List ℕ → ℕ
+modifiersOf held =
+    flagOf (getD held 42 0) + 2 * flagOf (getD held 53 0) + 4 * flagOf (getD held 54 0)
+    + 8 * flagOf (getD held 58 0) + 16 * flagOf (getD held 55 0) + 32 * flagOf (getD held 57 0)
+
+-- How many of the keys 1 to n are held,
+unfoldable pub heldTo : ℕ → List ℕ → ℕ
+heldTo zero held = 0
+heldTo (suc n) held = heldTo n held + flagOf (getD held (suc n) 0)
+
+-- and of all keys.
+abbrev pub heldCount : List ℕ → ℕ
+heldCount held = heldTo lastKey held
