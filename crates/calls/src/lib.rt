@@ -1,18 +1,18 @@
 // The dock's entry points (docs/RULES.md): the four calls, each for any record at all. A record out of its range is refused before all
 // else (section 9), and a refused call gives the record back as it was. A caller that knows its record to be in range has the calls in
-// place, in `dock`.
+// place, in `panel` and `wire`.
 use dock::Answer;
 use dock::Answered;
 use dock::Given;
 use dock::Taken;
-use dock::frame::frame_in_place;
-use dock::read::read_in_place;
-use dock::scan::scan_in_place;
-use dock::swap::swap_in_place;
+use panel::scan::scan_in_place;
+use panel::swap::swap_in_place;
 use record::Dock;
 use record::apart::dock_with;
 use record::apart::rest_of;
 use record::range::in_range;
+use wire::frame::frame_in_place;
+use wire::read::read_in_place;
 ghost use mathlib.Core.Path.{_≡_};
 ghost use Rattle.dock.specs.Scan.{scanOf};
 ghost use Rattle.dock.specs.Read.{readOf};

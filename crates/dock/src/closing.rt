@@ -7,7 +7,7 @@ ghost use mathlib.Core.Bool.{true};
 ghost use Rattle.dock.specs.Closing.{closing, restInRange, HeldAfter};
 
 // An open handover goes on: the flags of the held keys are lent. It is apart, so that calls do not pay for it while none is open.
-pub(crate) fn go_on(held: &mut Held, types: &Types, r: Rest) -> Rest
+pub fn go_on(held: &mut Held, types: &Types, r: Rest) -> Rest
     requires { ⌜ (restInRange (now held) (now types) r ≡ true) × (r .handover ≡ true) ⌝ }
     ensures { λ e. ⌜ HeldAfter closing (now (held .entry)) (now (types .entry)) r (now (held .exit)) e ⌝ }
 {

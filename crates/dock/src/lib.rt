@@ -1,14 +1,10 @@
-// The dock (docs/RULES.md): one module for each call, in place. The record is in its range, and nothing is looked at again: the arrays are
-// lent, and only the rest is passed. A refused call leaves the record as it was. `Answered` and `Taken` hold a whole record: with them the
-// definitions say what a call gives, whatever record it is given.
+// The dock (docs/RULES.md): what a call is answered with, and how every accepted call ends. What each call does is said in specs/, and
+// done in place by `panel` and `wire`. `Answered` and `Taken` hold a whole record: with them the definitions say what a call gives, whatever
+// record it is given. A refused call leaves it as it was.
 use record::Dock;
 use record::Rest;
 
 pub mod closing; // closing.rt: how every accepted call ends
-pub mod scan; // scan.rt: a scan of the panel
-pub mod read; // read.rt: the next byte for the host
-pub mod swap; // swap.rt: another panel
-pub mod frame; // frame.rt: a frame from the host
 
 // What a scan, a swap or a frame is answered with.
 pub enum Answer {

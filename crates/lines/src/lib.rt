@@ -89,7 +89,7 @@ fn scan_line(
     ensures { λ x. ⌜ walkedWith (now (map .entry)) (now (closed .exit)) (now (counts .exit)) (now (held .exit)) (now (types .entry)) x ≡ steppedBy (scanOf (dockWith (now (map .entry)) (now (closed .entry)) (now (counts .entry)) (now (held .entry)) (now (types .entry)) r) (bytesFrom (now (line .entry)) 0 18)) ⌝ }
 {
     let scan = text::digits::scan_in(line);
-    let x = dock::scan::scan_in_place(map, closed, counts, held, types, r, &scan);
+    let x = panel::scan::scan_in_place(map, closed, counts, held, types, r, &scan);
     let rest = x.rest;
     let answer = x.answer;
     Walked {
@@ -103,7 +103,7 @@ fn read_line(held: &mut Held, types: &Types, r: Rest) -> Walked
     requires { ⌜ restInRange (now held) (now types) r ≡ true ⌝ }
     ensures { λ x. ⌜ ((map closed counts : List ℕ) → inRange (dockWith map closed counts (now (held .entry)) (now (types .entry)) r) ≡ true → walkedWith map closed counts (now (held .exit)) (now (types .entry)) x ≡ steppedRead (readOf (dockWith map closed counts (now (held .entry)) (now (types .entry)) r))) ⌝ }
 {
-    let x = dock::read::read_in_place(held, types, r);
+    let x = wire::read::read_in_place(held, types, r);
     let rest = x.rest;
     let given = x.given;
     Walked {
@@ -125,7 +125,7 @@ fn frame_line(
     ensures { λ x. ⌜ ((map : List ℕ) → inRange (dockWith map (now (closed .entry)) (now (counts .entry)) (now (held .entry)) (now (types .entry)) r) ≡ true → walkedWith map (now (closed .exit)) (now (counts .exit)) (now (held .exit)) (now (types .exit)) x ≡ steppedBy (frameOf (dockWith map (now (closed .entry)) (now (counts .entry)) (now (held .entry)) (now (types .entry)) r) (frameIn (now (line .entry))))) ⌝ }
 {
     let number = text::digits::frame_in(line);
-    let x = dock::frame::frame_in_place(closed, counts, held, types, r, number);
+    let x = wire::frame::frame_in_place(closed, counts, held, types, r, number);
     let rest = x.rest;
     let answer = x.answer;
     Walked {
@@ -148,7 +148,7 @@ fn map_line(
     ensures { λ x. ⌜ walkedWith (now (map .exit)) (now (closed .exit)) (now (counts .exit)) (now (held .exit)) (now (types .entry)) x ≡ steppedBy (swapOf (dockWith (now (map .entry)) (now (closed .entry)) (now (counts .entry)) (now (held .entry)) (now (types .entry)) r) (bytesFrom (now (line .entry)) 0 144)) ⌝ }
 {
     let new = text::digits::map_in(line);
-    let x = dock::swap::swap_in_place(map, closed, counts, held, types, r, &new);
+    let x = panel::swap::swap_in_place(map, closed, counts, held, types, r, &new);
     let rest = x.rest;
     let answer = x.answer;
     Walked {

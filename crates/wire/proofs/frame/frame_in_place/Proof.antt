@@ -1,0 +1,86 @@
+-- `wire::frame::frame_in_place` meets its contract: at each return what the frame unpacks to decides what the definition gives. Assumes nothing.
+use mathlib.Core.List.{[]}
+use borrow.Author.Needs.{needs}
+use Rattle.contacts.specs.Counts.{contacts}
+use Rattle.record.specs.Apart.{dockWith}
+use Rattle.record.proofs.Ranges.{in-range-with-contacts}
+use Rattle.dock.proofs.InRange.{rest-in-range, broken-leaves-range, byte-leaves-range}
+use Rattle.dock.proofs.Framing.{frame-too-large, frame-broken, frame-byte}
+use Rattle.wire.proofs.frame.frame_in_place.Statement.{statement}
+use Rattle.wire.proofs.frame.frame_in_place.Tie as tie
+
+unpack-requires : tie.Need-unpack-requires
+unpack-requires c κs = search needs
+
+enum-told : tie.Need-enum-told
+enum-told c = search needs
+
+enum-told-2 : tie.Need-enum-told-2
+enum-told-2 c = search needs
+
+reply-requires : tie.Need-reply-requires
+reply-requires c κs = search needs
+
+close-in-place-requires : tie.Need-close-in-place-requires
+close-in-place-requires c κs =
+    let s = c .before .before .before .before .before .before in
+    let a = s .args in
+    broken-leaves-range (dockWith [] [] [] (a .held .now) (a .types .now) (a .r)) (s .pre)
+    (dockWith [] [] [] (a .held .now) (a .types .now) (c .reply .result)) (c .reply .ensures [] [] [] (a .held .now) (a .types .now))
+
+enum-known-unpacked : tie.Need-enum-known-unpacked
+enum-known-unpacked c = search needs
+
+take-requires : tie.Need-take-requires
+take-requires c κs = search needs
+
+close-in-place-requires-2 : tie.Need-close-in-place-requires-2
+close-in-place-requires-2 c κs =
+    let took = c .before .before in
+    let s = took .before .before .before .before .before .before .before .before .before in
+    let a = s .args in
+    let known = in-range-with-contacts (dockWith [] [] [] (a .held .now) (a .types .now) (a .r)) (s .pre) (contacts (a .closed .now) (a .counts .now)) in
+    rest-in-range [] _ _ _ _ (took .take .result)
+    (byte-leaves-range (dockWith [] (a .closed .now) (a .counts .now) (a .held .now) (a .types .now) (a .r)) known _ _ (took .take .ensures []))
+
+returns : tie.Need-returns
+returns c = λ map known.
+    let unpacked = c .before .before in
+    let a = unpacked .before .args in
+    frame-too-large (dockWith map (a .closed .now) (a .counts .now) (a .held .now) (a .types .now) (a .r)) (a .number) known _ (unpacked .unpack .ensures) (c .enum-told .given .1)
+
+returns-2 : tie.Need-returns-2
+returns-2 c = λ map known.
+    let told = c .before .before .before .before in
+    let unpacked = told .before .before in
+    let a = unpacked .before .args in
+    frame-broken (dockWith map (a .closed .now) (a .counts .now) (a .held .now) (a .types .now) (a .r)) (a .number) known
+    _ (unpacked .unpack .ensures) (dockWith map (a .closed .now) (a .counts .now) (a .held .now) (a .types .now) (c .before .reply .result))
+    _ (c .close-in-place .ensures map (a .closed .now) (a .counts .now)) (told .enum-told2 .given .1)
+    (c .before .reply .ensures map (a .closed .now) (a .counts .now) (a .held .now) (a .types .now))
+
+returns-3 : tie.Need-returns-3
+returns-3 c = λ map known.
+    let took = c .before .before .before in
+    let told = took .before .before .before .before .before in
+    let unpacked = told .before .before .before in
+    let a = unpacked .before .args in
+    frame-byte (dockWith map (a .closed .now) (a .counts .now) (a .held .now) (a .types .now) (a .r)) (a .number) known
+    _ (unpacked .unpack .ensures)
+    _ _ (c .close-in-place2 .ensures map _ _) _ (told .before .unpacked .given .1) (took .take .ensures map)
+
+pub frame-in-place-spec : {M : Type 1} → statement M
+frame-in-place-spec =
+    tie.close
+    (tie.spec
+    unpack-requires
+    enum-told
+    enum-told-2
+    reply-requires
+    close-in-place-requires
+    enum-known-unpacked
+    take-requires
+    close-in-place-requires-2
+    returns
+    returns-2
+    returns-3)

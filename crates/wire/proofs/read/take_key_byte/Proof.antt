@@ -1,0 +1,47 @@
+-- `wire::read::take_key_byte` meets its contract: the oldest key byte stands in front, and what is left is in its range. Assumes nothing.
+use mathlib.Core.List.{[]}
+use borrow.Author.Needs.{needs}
+use Rattle.record.specs.Apart.{dockWith}
+use Rattle.record.proofs.Ranges.{in-range-keys, good-keys-queue}
+use Rattle.dock.proofs.InRange.{key-byte-leaves-range}
+use Rattle.dock.proofs.Reading.{oldest-in-front, key-byte-given}
+use Rattle.wire.proofs.read.take_key_byte.Statement.{statement}
+use Rattle.wire.proofs.read.take_key_byte.Tie as tie
+
+element-copy-out-byte : tie.Need-element-copy-out-byte
+element-copy-out-byte c = search needs
+
+popped-requires : tie.Need-popped-requires
+popped-requires c κs =
+    let s = c .before .before .before in
+    let a = s .args in
+    let d = dockWith [] [] [] (a .held .now) (a .types .now) (a .r) in
+    good-keys-queue (d .keys) (in-range-keys d (s .pre .0))
+
+remember-requires : tie.Need-remember-requires
+remember-requires c κs = search needs
+
+close-in-place-requires : tie.Need-close-in-place-requires
+close-in-place-requires c κs =
+    let s = c .before .before .before .before .before .before in
+    let a = s .args in
+    key-byte-leaves-range (dockWith [] [] [] (a .held .now) (a .types .now) (a .r)) (s .pre .0) _ _ _ (c .before .before .popped .ensures)
+    (c .remember .ensures [] [] [] (a .held .now) (a .types .now))
+
+returns : tie.Need-returns
+returns c = λ map closed counts.
+    let s = c .before .before .before .before .before .before .before in
+    let a = s .args in
+    key-byte-given (dockWith map closed counts (a .held .now) (a .types .now) (a .r)) _ _ _ (c .close-in-place .ensures map closed counts) _
+    (oldest-in-front (a .r .outgoing .queue) (s .pre .1)) (c .before .before .before .popped .ensures)
+    (c .before .remember .ensures map closed counts (a .held .now) (a .types .now))
+
+pub take-key-byte-spec : {M : Type 1} → statement M
+take-key-byte-spec =
+    tie.close
+    (tie.spec
+    element-copy-out-byte
+    popped-requires
+    remember-requires
+    close-in-place-requires
+    returns)

@@ -1,0 +1,47 @@
+-- `wire::read::take_reply` meets its contract: the oldest reply stands in front, and what is left is in its range. Assumes nothing.
+use mathlib.Core.List.{[]}
+use borrow.Author.Needs.{needs}
+use Rattle.record.specs.Apart.{dockWith}
+use Rattle.record.proofs.Ranges.{in-range-replies}
+use Rattle.dock.proofs.InRange.{reply-leaves-range}
+use Rattle.dock.proofs.Reading.{oldest-reply-in-front, reply-given}
+use Rattle.wire.proofs.read.take_reply.Statement.{statement}
+use Rattle.wire.proofs.read.take_reply.Tie as tie
+
+element-copy-out-byte : tie.Need-element-copy-out-byte
+element-copy-out-byte c = search needs
+
+popped-requires : tie.Need-popped-requires
+popped-requires c κs =
+    let s = c .before .before in
+    let a = s .args in
+    let d = dockWith [] [] [] (a .held .now) (a .types .now) (a .r) in
+    (in-range-replies d (s .pre .0), s .pre .1)
+
+remember-requires : tie.Need-remember-requires
+remember-requires c κs = search needs
+
+close-in-place-requires : tie.Need-close-in-place-requires
+close-in-place-requires c κs =
+    let s = c .before .before .before .before .before in
+    let a = s .args in
+    reply-leaves-range (dockWith [] [] [] (a .held .now) (a .types .now) (a .r)) (s .pre .0) _ _ _ (c .before .before .popped .ensures)
+    (c .remember .ensures [] [] [] (a .held .now) (a .types .now))
+
+returns : tie.Need-returns
+returns c = λ map closed counts.
+    let s = c .before .before .before .before .before .before in
+    let a = s .args in
+    reply-given (dockWith map closed counts (a .held .now) (a .types .now) (a .r)) _ _ _ (c .close-in-place .ensures map closed counts) _
+    (oldest-reply-in-front (a .r .replies) (s .pre .1)) (c .before .before .before .popped .ensures)
+    (c .before .remember .ensures map closed counts (a .held .now) (a .types .now))
+
+pub take-reply-spec : {M : Type 1} → statement M
+take-reply-spec =
+    tie.close
+    (tie.spec
+    element-copy-out-byte
+    popped-requires
+    remember-requires
+    close-in-place-requires
+    returns)

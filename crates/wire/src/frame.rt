@@ -1,0 +1,53 @@
+// A frame from the host.
+use contacts::Columns;
+use contacts::Counts;
+use dock::Answer;
+use dock::Done;
+use dock::closing::close_in_place;
+use frames::Unpacked;
+use host::reply;
+use host::take;
+use record::Held;
+use record::Rest;
+use record::Types;
+ghost use mathlib.Core.Path.{_≡_};
+ghost use mathlib.Core.Bool.{true};
+ghost use mathlib.Core.List.{List};
+ghost use Prim.Native.Nat.{ℕ};
+ghost use Rattle.record.specs.Apart.{dockWith};
+ghost use Rattle.record.specs.Range.{inRange};
+ghost use Rattle.dock.specs.Answers.{answeredWith};
+ghost use Rattle.dock.specs.Closing.{restInRange};
+ghost use Rattle.dock.specs.Frame.{frameOf};
+
+// The frame call in place, of a record in its range, whatever the map is.
+pub fn frame_in_place(
+    closed: &mut Columns,
+    counts: &mut Counts,
+    held: &mut Held,
+    types: &mut Types,
+    r: Rest,
+    number: u32,
+) -> Done
+    requires { ⌜ restInRange (now held) (now types) r ≡ true ⌝ }
+    ensures { λ x. ⌜ ((map : List ℕ) → inRange (dockWith map (now (closed .entry)) (now (counts .entry)) (now (held .entry)) (now (types .entry)) r) ≡ true → answeredWith map (now (closed .exit)) (now (counts .exit)) (now (held .exit)) (now (types .exit)) x ≡ frameOf (dockWith map (now (closed .entry)) (now (counts .entry)) (now (held .entry)) (now (types .entry)) r) number) ⌝ }
+{
+    let unpacked = frames::unpack(number);
+    match unpacked {
+        Unpacked::TooLarge => Done {
+            answer: Answer::FrameNumber,
+            rest: r,
+        },
+        Unpacked::Broken => Done {
+            answer: Answer::Accepted,
+            rest: close_in_place(held, types, reply(r, 0xfe)),
+        },
+        Unpacked::Byte(byte) => {
+            let e = take(closed, counts, held, types, r, byte);
+            Done {
+                answer: Answer::Accepted,
+                rest: close_in_place(held, types, e),
+            }
+        }
+    }
+}
