@@ -26,7 +26,7 @@ struct Ran {
 }
 
 // The same in place: the arrays of the record were lent.
-struct Walk {
+struct RanRest {
     rest: Rest,
     used: usize,
     written: usize,
@@ -72,7 +72,7 @@ fn run_in_place(
     r: Rest,
     text: &[u8],
     out: &mut [u8],
-) -> Walk
+) -> RanRest
     requires { ⌜ (length (now text) ≤ 16384) × (length (now out) ≡ 65536) × (inRange (dockWith (now map) (now closed) (now counts) (now held) (now types) r) ≡ true) × (length (now closed) ≡ 18) × (length (now counts) ≡ 144) ⌝ }
     ensures { λ w. ⌜ (w .used ≤ length (now (text .entry))) × (w .written ≤ 65536) × (inRange (dockWith (now (map .exit)) (now (closed .exit)) (now (counts .exit)) (now (held .exit)) (now (types .exit)) (w .rest)) ≡ true) ⌝ }
 {
@@ -88,7 +88,7 @@ fn run_in_place(
         at = end + 1;
         end = text::kinds::end_of(text, at);
     }
-    Walk {
+    RanRest {
         rest,
         used: at,
         written,

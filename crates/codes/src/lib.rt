@@ -1,6 +1,8 @@
 // The codes of keys (docs/RULES.md, section 3): the bytes that a press, a release or a repeat of a key sends.
 mod bytes; // bytes.rt: bytes put one after another
+pub mod rows; // rows.rt: what a key's row and its type say
 pub mod forms; // forms.rt: which form a key takes
+mod wraps; // wraps.rt: what a wrapping sends around a key
 pub mod plain; // plain.rt: the bytes of an action of a key with one form
 pub mod strokes; // strokes.rt: the bytes of an action
 

@@ -2,9 +2,9 @@
 use crate::Action;
 use crate::Sequence;
 use crate::bytes::empty;
-use crate::strokes::code_in;
-use crate::strokes::may_repeat;
-use crate::strokes::sends_release;
+use crate::rows::code_in;
+use crate::rows::may_repeat;
+use crate::rows::sends_release;
 use keys::Table;
 ghost use mathlib.Core.Path.{_≡_};
 ghost use mathlib.Core.Bool.{Bool, false};

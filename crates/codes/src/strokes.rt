@@ -8,84 +8,20 @@ use crate::bytes::empty;
 use crate::bytes::with_break;
 use crate::bytes::with_make;
 use crate::forms::form_of;
+use crate::rows::code_in;
+use crate::rows::may_repeat;
+use crate::rows::sends_release;
+use crate::wraps::with_after;
+use crate::wraps::with_before;
 use keys::Table;
 ghost use mathlib.Core.Path.{_≡_};
 ghost use mathlib.Core.List.{_++_};
 ghost use Rattle.basics.specs.Choice.{both};
-ghost use Rattle.codes.specs.Codes.{makeOf, before, after, isPrint, isOther, codeOf, pauseBytes, pausesAtOnce, sendsRelease, mayRepeat, bytesOf, encode};
-ghost use Rattle.keys.specs.Keys.{laidOut, codeIn, leftWrap, rightWrap};
+ghost use Rattle.codes.specs.Codes.{makeOf, before, isPrint, isOther, codeOf, pauseBytes, pausesAtOnce, bytesOf, encode};
+ghost use Rattle.keys.specs.Keys.{laidOut};
 ghost use Rattle.codes.specs.declared.Action.the-variants.{Press, Release, Repeat};
-ghost use Rattle.codes.specs.Sequences.{holding, adding};
+ghost use Rattle.codes.specs.Sequences.{holding};
 ghost use Prim.Native.Nat.{ℕ, _≤_};
-
-// The code of SHIFT_L behind E0.
-fn left_wrap(set: u8) -> u16
-    ensures { λ r. ⌜ r ≡ leftWrap set ⌝ }
-{
-    if set == 1 { 0xe02a } else { 0xe012 }
-}
-
-// The code of SHIFT_R behind E0.
-fn right_wrap(set: u8) -> u16
-    ensures { λ r. ⌜ r ≡ rightWrap set ⌝ }
-{
-    if set == 1 { 0xe036 } else { 0xe059 }
-}
-
-// What a form sends before a make.
-fn with_before(s: Sequence, set: u8, form: Form) -> Sequence
-    requires { ⌜ s .length ≤ 2 ⌝ }
-    ensures { λ r. ⌜ r ≡ adding s (before set form) ⌝ }
-{
-    let left = left_wrap(set);
-    let right = right_wrap(set);
-    match form {
-        Form::Plain => s,
-        Form::ShiftLeft => with_break(s, set, left),
-        Form::ShiftRight => with_break(s, set, right),
-        Form::ShiftBoth => {
-            let first = with_break(s, set, left);
-            with_break(first, set, right)
-        }
-        Form::NumLock => with_make(s, left),
-        Form::Other => s,
-    }
-}
-
-// What a form sends after a break.
-fn with_after(s: Sequence, set: u8, form: Form) -> Sequence
-    requires { ⌜ s .length ≤ 4 ⌝ }
-    ensures { λ r. ⌜ r ≡ adding s (after set form) ⌝ }
-{
-    let left = left_wrap(set);
-    let right = right_wrap(set);
-    match form {
-        Form::Plain => s,
-        Form::ShiftLeft => with_make(s, left),
-        Form::ShiftRight => with_make(s, right),
-        Form::ShiftBoth => {
-            let first = with_make(s, right);
-            with_make(first, left)
-        }
-        Form::NumLock => with_break(s, set, left),
-        Form::Other => s,
-    }
-}
-
-// The code of a key by the table: the one place where an action looks into it.
-pub(crate) fn code_in(table: &Table, set: u8, key: u8) -> u16
-    requires { ⌜ now table ≡ laidOut ⌝ }
-    ensures { λ r. ⌜ r ≡ codeIn set key ⌝ }
-{
-    let row = keys::row_in(table, key);
-    if set == 1 {
-        return row.0;
-    }
-    if set == 2 {
-        return row.1;
-    }
-    row.2
-}
 
 // The other form of PRINT or PAUSE.
 fn is_other(form: Form) -> bool
@@ -162,35 +98,6 @@ fn pauses_at_once(set: u8, key: u8) -> bool
         return true;
     }
     set == 2
-}
-
-// A release is sent.
-pub(crate) fn sends_release(set: u8, kind: u8) -> bool
-    ensures { λ r. ⌜ r ≡ sendsRelease set kind ⌝ }
-{
-    if set != 3 {
-        return true;
-    }
-    if kind == keys::MAKE_BREAK {
-        return true;
-    }
-    kind == keys::TYPEMATIC_MAKE_BREAK
-}
-
-// A key of this type repeats while it is held.
-pub fn may_repeat(set: u8, key: u8, kind: u8) -> bool
-    ensures { λ r. ⌜ r ≡ mayRepeat set key kind ⌝ }
-{
-    if key == PAUSE {
-        return false;
-    }
-    if set != 3 {
-        return true;
-    }
-    if kind == keys::TYPEMATIC {
-        return true;
-    }
-    kind == keys::TYPEMATIC_MAKE_BREAK
 }
 
 // A key's make in its form, behind what a wrapping sends.

@@ -10,8 +10,8 @@ use Rattle.dock.specs.declared.Answered.{Answered}
 use Rattle.dock.specs.declared.Given.{Given}
 use Rattle.dock.specs.declared.Given.the-variants.{Nothing, Reply, KeyByte, Refused}
 use Rattle.dock.specs.declared.Taken.{Taken}
-use Rattle.dock.specs.declared.Done.{Done}
-use Rattle.dock.specs.declared.Gave.{Gave}
+use Rattle.dock.specs.declared.AnsweredRest.{AnsweredRest}
+use Rattle.dock.specs.declared.TakenRest.{TakenRest}
 use Rattle.record.specs.Apart.{dockWith}
 
 -- The number of an answer.
@@ -44,8 +44,8 @@ abbrev pub taken : Given → Dock → Taken
 taken given dock = record { given = given; dock = dock }
 
 -- The same in place: the arrays as they are, and the rest.
-abbrev pub answeredWith : List ℕ → List ℕ → List ℕ → List ℕ → List ℕ → Done → Answered
+abbrev pub answeredWith : List ℕ → List ℕ → List ℕ → List ℕ → List ℕ → AnsweredRest → Answered
 answeredWith map closed counts held types x = answered (x .answer) (dockWith map closed counts held types (x .rest))
 
-abbrev pub takenWith : List ℕ → List ℕ → List ℕ → List ℕ → List ℕ → Gave → Taken
+abbrev pub takenWith : List ℕ → List ℕ → List ℕ → List ℕ → List ℕ → TakenRest → Taken
 takenWith map closed counts held types x = taken (x .given) (dockWith map closed counts held types (x .rest))

@@ -23,33 +23,38 @@ pub enum Answer {
     BadRecord,
 }
 
+// An answer, and the record after it.
 pub struct Answered {
     pub answer: Answer,
     pub dock: Dock,
 }
 
-// The same in place.
-pub struct Done {
+// The same in place: the arrays were lent.
+pub struct AnsweredRest {
     pub answer: Answer,
     pub rest: Rest,
 }
 
 // What a read gives.
 pub enum Given {
+    // Neither a reply nor a key byte waits.
     Nothing,
+    // The oldest reply.
     Reply(u8),
+    // The oldest key byte.
     KeyByte(u8),
     // 9: a part of the record is out of its range
     Refused,
 }
 
+// What a read gave, and the record after it.
 pub struct Taken {
     pub given: Given,
     pub dock: Dock,
 }
 
-// The same in place.
-pub struct Gave {
+// The same in place: the arrays were lent.
+pub struct TakenRest {
     pub given: Given,
     pub rest: Rest,
 }

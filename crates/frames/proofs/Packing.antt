@@ -3,7 +3,7 @@ use mathlib.Core.Path.{_≡_}
 use Prim.Native.Nat.{ℕ, _+_, _*_, _%_, _≤_, _<_}
 use native.Mathlib.Omega.{arith}
 use lib.Bits.{bitOr, or-shifted-r}
-use Rattle.frames.specs.Frames.{parity, frameOf}
+use Rattle.frames.specs.Frames.{parity, packedOf}
 
 pub parity-small : (b : ℕ) → parity b ≤ 1
 unfolding parity
@@ -11,8 +11,8 @@ parity-small b = omega arith
 
 -- Each part stands above the bits of those before it, so "or" is their sum; none is shifted out of sixteen bits.
 pub packed-by-shifts : (b p : ℕ) → b < 256 → p ≡ parity b
-    → bitOr (bitOr (b * 2 % 65536) (p * 512 % 65536)) 1024 ≡ frameOf b
-unfolding frameOf
+    → bitOr (bitOr (b * 2 % 65536) (p * 512 % 65536)) 1024 ≡ packedOf b
+unfolding packedOf
 packed-by-shifts b p h e =
     let small : p ≤ 1 = rw e (parity-small b) in
     let byte : b * 2 % 65536 ≡ b * 2 = omega arith in

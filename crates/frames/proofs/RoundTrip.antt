@@ -9,35 +9,35 @@ use borrow.Author.Tests.{le-ltb, eq-eqb}
 use Rattle.basics.specs.Choice.{both}
 use Rattle.basics.proofs.Tables.{both-left, both-right}
 use Rattle.frames.specs.declared.Unpacked.the-variants.{Byte}
-use Rattle.frames.specs.Frames.{parity, frameOf, bit, byteOf, whole, unpackedOf}
+use Rattle.frames.specs.Frames.{parity, packedOf, bit, byteOf, whole, unpackedOf}
 use Rattle.frames.proofs.Packing.{parity-small}
 
 module _ (b : ℕ) (h : b < 256) where
-  pub frame-small : frameOf b ≤ 2047
-  unfolding frameOf
+  pub frame-small : packedOf b ≤ 2047
+  unfolding packedOf
   frame-small = omega (arith, parity-small b)
 
-  pub start-bit : bit (frameOf b) 0 ≡ 0
-  unfolding frameOf
+  pub start-bit : bit (packedOf b) 0 ≡ 0
+  unfolding packedOf
   start-bit = omega (arith, parity-small b)
 
-  pub byte-bits : byteOf (frameOf b) ≡ b
-  unfolding frameOf
+  pub byte-bits : byteOf (packedOf b) ≡ b
+  unfolding packedOf
   byte-bits = omega (arith, parity-small b)
 
-  pub parity-bit : bit (frameOf b) 9 ≡ parity b
-  unfolding frameOf
+  pub parity-bit : bit (packedOf b) 9 ≡ parity b
+  unfolding packedOf
   parity-bit = omega (arith, parity-small b)
 
-  pub stop-bit : bit (frameOf b) 10 ≡ 1
-  unfolding frameOf
+  pub stop-bit : bit (packedOf b) 10 ≡ 1
+  unfolding packedOf
   stop-bit = omega (arith, parity-small b)
 
-  pub packed-is-whole : whole (frameOf b) ≡ true
+  pub packed-is-whole : whole (packedOf b) ≡ true
   unfolding whole
   packed-is-whole = simp (byte-bits, eq-eqb _ _ start-bit, eq-eqb _ _ parity-bit, eq-eqb _ _ stop-bit)
 
-pub pack-unpack : (b : ℕ) → b < 256 → unpackedOf (frameOf b) ≡ Byte b
+pub pack-unpack : (b : ℕ) → b < 256 → unpackedOf (packedOf b) ≡ Byte b
 unfolding unpackedOf
 pack-unpack b h = simp (le-ltb _ _ (frame-small b h), packed-is-whole b h, byte-bits b h)
 
@@ -50,8 +50,8 @@ whole-bits n t =
     let rest = both-right start (both odd stop) t in
     (eqb→eq _ _ (both-left start (both odd stop) t), eqb→eq _ _ (both-left odd stop rest), eqb→eq _ _ (both-right odd stop rest))
 
-pub whole-is-packed : (n : ℕ) → n ≤ 2047 → whole n ≡ true → n ≡ frameOf (byteOf n)
-unfolding frameOf
+pub whole-is-packed : (n : ℕ) → n ≤ 2047 → whole n ≡ true → n ≡ packedOf (byteOf n)
+unfolding packedOf
 whole-is-packed n h w =
     let above-byte : n / 2 / 256 ≡ n / 512 = div-div-eq-div-mul n 2 256 in
     let above-parity : n / 512 / 2 ≡ n / 1024 = div-div-eq-div-mul n 512 2 in

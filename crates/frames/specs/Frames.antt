@@ -12,8 +12,8 @@ unfoldable pub parity : ℕ → ℕ
 parity b = (ones b + 1) % 2
 
 -- The frame of a byte: start 0 at bit 0, the byte from bit 1 on, its parity at bit 9, stop 1 at bit 10.
-unfoldable pub frameOf : ℕ → ℕ
-frameOf b = 0 * 2 ^ 0 + b * 2 ^ 1 + parity b * 2 ^ 9 + 1 * 2 ^ 10
+unfoldable pub packedOf : ℕ → ℕ
+packedOf b = 0 * 2 ^ 0 + b * 2 ^ 1 + parity b * 2 ^ 9 + 1 * 2 ^ 10
 
 -- The bit of a number at a place.
 abbrev pub bit : ℕ → ℕ → ℕ

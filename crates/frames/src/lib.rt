@@ -1,6 +1,6 @@
 // Frames (docs/RULES.md, section 2): the eleven bits in which a byte goes over the wire, as a number.
 ghost use mathlib.Core.Path.{_≡_};
-ghost use Rattle.frames.specs.Frames.{parity, frameOf, unpackedOf};
+ghost use Rattle.frames.specs.Frames.{parity, packedOf, unpackedOf};
 
 // What unpacking a number finds.
 pub enum Unpacked {
@@ -21,7 +21,7 @@ fn parity_of(byte: u8) -> u16
 
 // The frame of a byte.
 pub fn pack(byte: u8) -> u16
-    ensures { λ r. ⌜ r ≡ frameOf byte ⌝ }
+    ensures { λ r. ⌜ r ≡ packedOf byte ⌝ }
 {
     ((byte as u16) << 1) | (parity_of(byte) << 9) | (1 << 10)
 }

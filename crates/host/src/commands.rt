@@ -27,7 +27,7 @@ fn quieten(r: Rest) -> Rest
     let mut o = r.outgoing;
     o.queue = queue::empty();
     o.repeating = 0;
-    o.clock = 0;
+    o.countdown = 0;
     let mut e = r;
     e.outgoing = o;
     e

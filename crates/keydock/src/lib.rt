@@ -4,7 +4,7 @@ use encoder::Encoded;
 use frames::Unpacked;
 use reader::Event;
 ghost use mathlib.Core.Path.{_≡_};
-ghost use Rattle.frames.specs.Frames.{frameOf, unpackedOf};
+ghost use Rattle.frames.specs.Frames.{packedOf, unpackedOf};
 ghost use Rattle.encoder.specs.Encoder.{encodedOf, outputOf};
 ghost use Rattle.reader.specs.Reader.{answerOf, numberOf};
 ghost use Rattle.keydock.specs.Numbers.{unpackedNumber, encodedNumber, eventNumber, keyOf, answerNumber};
@@ -12,7 +12,7 @@ ghost use Rattle.keydock.specs.Numbers.{unpackedNumber, encodedNumber, e
 // The frame of a byte.
 #[no_mangle]
 pub extern "C" fn keydock_pack_frame(byte: u8) -> u16
-    ensures { λ r. ⌜ r ≡ frameOf byte ⌝ }
+    ensures { λ r. ⌜ r ≡ packedOf byte ⌝ }
 {
     frames::pack(byte)
 }

@@ -44,6 +44,6 @@ module _ (k : Keys) (m : Mode) (type key : ℕ) where
     unfolding released releasedWith
     released-repeats e = simp (eq-eqb _ _ e, queue-is)
 
-    pub released-only : (k .repeating ≡ key → ⊥) → keys (set (k .held) key 0) q (k .repeating) (k .clock) ≡ released k m type key
+    pub released-only : (k .repeating ≡ key → ⊥) → keys (set (k .held) key 0) q (k .repeating) (k .countdown) ≡ released k m type key
     unfolding released releasedWith
     released-only n = simp (ne-eqb _ _ n, queue-is)

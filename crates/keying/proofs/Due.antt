@@ -1,4 +1,4 @@
--- The clock and the key that repeats, as the code meets them. Assumes nothing.
+-- The countdown and the key that repeats, as the code meets them. Assumes nothing.
 use mathlib.Core.Path.{_≡_, ap, _∙_}
 use mathlib.Core.Bool.{Bool, true, false}
 use mathlib.Core.List.{List}
@@ -19,9 +19,9 @@ use Rattle.sending.specs.Sending.{sends}
 use Rattle.sending.proofs.Sent.{sequence-is}
 use Rattle.keying.specs.Repeat.{intervalOf, ticked, isDue, repeated}
 
-pub clock-stands : (k : Keys) → k .clock ≡ 0 → k ≡ ticked k
-clock-stands k z =
-    let same : k .clock ≡ k .clock - 1 = omega arith in
+pub countdown-stands : (k : Keys) → k .countdown ≡ 0 → k ≡ ticked k
+countdown-stands k z =
+    let same : k .countdown ≡ k .countdown - 1 = omega arith in
     ap (withRepeat k (k .repeating)) same
 
 module _ (k : Keys) (m : Mode) (types : List ℕ) (quiet : Bool) where
@@ -30,15 +30,15 @@ module _ (k : Keys) (m : Mode) (types : List ℕ) (quiet : Bool) where
   repeats-none e = rw (eq-eqb (k .repeating) 0 e)
 
   module _ (some : k .repeating ≡ 0 → ⊥) where
-    pub repeats-later : (k .clock ≡ 0 → ⊥) → k ≡ repeated k m types quiet
+    pub repeats-later : (k .countdown ≡ 0 → ⊥) → k ≡ repeated k m types quiet
     unfolding repeated
-    repeats-later n = simp (ne-eqb (k .repeating) 0 some, ne-eqb (k .clock) 0 n)
+    repeats-later n = simp (ne-eqb (k .repeating) 0 some, ne-eqb (k .countdown) 0 n)
 
-    module _ (now : k .clock ≡ 0) (may : Bool) (t : may ≡ mayRepeat (m .set) (k .repeating) (getD types (k .repeating) 0)) where
+    module _ (now : k .countdown ≡ 0) (may : Bool) (t : may ≡ mayRepeat (m .set) (k .repeating) (getD types (k .repeating) 0)) where
       due : isDue k ≡ true
-      due = simp (ne-eqb (k .repeating) 0 some, eq-eqb (k .clock) 0 now)
+      due = simp (ne-eqb (k .repeating) 0 some, eq-eqb (k .countdown) 0 now)
 
-      pub repeats-no-more : may ≡ false → keys (k .held) (k .queue) 0 (k .clock) ≡ repeated k m types quiet
+      pub repeats-no-more : may ≡ false → keys (k .held) (k .queue) 0 (k .countdown) ≡ repeated k m types quiet
       unfolding repeated
       repeats-no-more n = rw (due, ← t, n, now)
 

@@ -18,7 +18,7 @@ use Rattle.queue.proofs.Range.{pushed-tidy}
 use Rattle.record.specs.declared.Mode.{Mode}
 use Rattle.record.specs.declared.Keys.{Keys}
 use Rattle.record.specs.Range.{goodMode, goodKeys}
-use Rattle.record.proofs.Ranges.{good-mode-rate, good-keys, good-keys-queue, good-keys-repeating, good-keys-clock, good-keys-with-repeat}
+use Rattle.record.proofs.Ranges.{good-mode-rate, good-keys, good-keys-queue, good-keys-repeating, good-keys-countdown, good-keys-with-repeat}
 use Rattle.sending.specs.Sending.{sends, queuedOf}
 use Rattle.sending.proofs.Sent.{sends-short}
 use Rattle.keying.specs.Repeat.{delayOf, intervalOf, ticked, isDue, repeated}
@@ -34,7 +34,7 @@ queued-tidy q m bytes t = pushed-tidy q t (markOf (m .set)) bytes
 pub queued-short : (after q : Queue) (m : Mode) (bytes : List ℕ) → after ≡ queuedOf q m bytes → tidy q ≡ true → after .length ≤ 16
 queued-short after q m bytes e t = tidy-short after (ap tidy e ∙ queued-tidy q m bytes t)
 
--- No delay and no interval outlasts the clock.
+-- No delay and no interval outlasts the countdown.
 pub delay-small : (rate : ℕ) → rate ≤ 127 → delayOf rate ≤ 240
 unfolding delayOf
 delay-small rate h = omega arith
@@ -61,7 +61,7 @@ module _ (m : Mode) where
       good-keys _
       (queued-tidy (k .queue) m (sends k m type key Release) (good-keys-queue k g))
       (picked (λ (n : ℕ). n ≤ lastKey) (eqb (k .repeating) key) 0 (k .repeating) (omega arith) (good-keys-repeating k g))
-      (picked (λ (n : ℕ). n ≤ 240) (eqb (k .repeating) key) 0 (k .clock) (omega arith) (good-keys-clock k g))
+      (picked (λ (n : ℕ). n ≤ 240) (eqb (k .repeating) key) 0 (k .countdown) (omega arith) (good-keys-countdown k g))
 
   pub handed-good : (n key : ℕ) (k : Keys) (types : List ℕ) → goodKeys k ≡ true → goodKeys (handedFrom n key k m types .keys) ≡ true
   handed-good = handed-keeps InRange m released-good
@@ -86,7 +86,7 @@ module _ (m : Mode) where
 
 -- The key that repeats.
 pub ticked-good : (k : Keys) → goodKeys k ≡ true → goodKeys (ticked k) ≡ true
-ticked-good k g = good-keys-with-repeat k g _ _ (good-keys-repeating k g) (omega (arith, good-keys-clock k g))
+ticked-good k g = good-keys-with-repeat k g _ _ (good-keys-repeating k g) (omega (arith, good-keys-countdown k g))
 
 pub repeated-good : (k : Keys) (m : Mode) (types : List ℕ) (quiet : Bool) → goodKeys k ≡ true → goodKeys (repeated k m types quiet) ≡ true
 unfolding repeated

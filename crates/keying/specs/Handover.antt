@@ -13,7 +13,7 @@ use Rattle.record.specs.Apart.{keysWith}
 use Rattle.record.specs.Held.{isHeld}
 use Rattle.sending.specs.Sending.{sends}
 use Rattle.keying.specs.declared.Handed.{Handed}
-use Rattle.keying.specs.declared.Passed.{Passed}
+use Rattle.keying.specs.declared.HandedRest.{HandedRest}
 use Rattle.keying.specs.Moves.{released}
 
 -- The release of a key would fit into the queue.
@@ -33,5 +33,5 @@ abbrev pub handedOver : Keys → Mode → List ℕ → Handed
 handedOver k m types = handedFrom lastKey 1 k m types
 
 -- What the code gives of it, the flags having changed in place.
-abbrev pub handedWith : List ℕ → Passed → Handed
+abbrev pub handedWith : List ℕ → HandedRest → Handed
 handedWith held p = record { keys = keysWith held (p .outgoing); unfinished = p .unfinished }

@@ -18,7 +18,7 @@ use Rattle.keying.specs.Repeat.{delayOf}
 
 -- The keys of these parts: the flags, the bytes of the queue, and the rest.
 abbrev pub keysTold : List ℕ → List ℕ → Told → Keys
-keysTold held bytes t = keys held (queueWith bytes (t .length)) (t .repeating) (t .clock)
+keysTold held bytes t = keys held (queueWith bytes (t .length)) (t .repeating) (t .countdown)
 
 -- A key is pressed: it is held, its bytes are queued, and it is the one that repeats, if it may; else none does.
 unfoldable pub pressed : Keys → Mode → ℕ → ℕ → Keys
@@ -30,7 +30,7 @@ pressed k m type key =
 abbrev pub letGo : Keys → ℕ → Queue → Keys
 letGo k key queue =
     let stops = eqb (k .repeating) key in
-    keys (set (k .held) key 0) queue (pick stops 0 (k .repeating)) (pick stops 0 (k .clock))
+    keys (set (k .held) key 0) queue (pick stops 0 (k .repeating)) (pick stops 0 (k .countdown))
 
 -- A key is released, and these bytes say so: they are queued.
 unfoldable pub releasedWith : Keys → Mode → ℕ → List ℕ → Keys

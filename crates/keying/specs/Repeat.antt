@@ -24,15 +24,15 @@ intervalOf rate = (8 + rate % 8) * 2 ^ (rate / 8 % 4)
 
 -- One scan less to the next repeat.
 abbrev pub ticked : Keys → Keys
-ticked k = withRepeat k (k .repeating) (k .clock - 1)
+ticked k = withRepeat k (k .repeating) (k .countdown - 1)
 
 -- The same without the flags.
 abbrev pub tickedOn : Outgoing → Outgoing
-tickedOn o = record { queue = o .queue; repeating = o .repeating; clock = o .clock - 1 }
+tickedOn o = record { queue = o .queue; repeating = o .repeating; countdown = o .countdown - 1 }
 
 -- A repeat is due.
 abbrev pub isDue : Keys → Bool
-isDue k = both (not (eqb (k .repeating) 0)) (eqb (k .clock) 0)
+isDue k = both (not (eqb (k .repeating) 0)) (eqb (k .countdown) 0)
 
 -- A repeat that is due is sent if all is quiet, and is lost otherwise; either way the next interval begins. A key that may not
 -- repeat any more stops.

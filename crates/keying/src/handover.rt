@@ -1,5 +1,5 @@
 // The keys of a panel that was taken away are released, the lowest first, each as soon as its release fits.
-use crate::Passed;
+use crate::HandedRest;
 use crate::moves::release_with;
 use codes::Action;
 use record::Held;
@@ -14,7 +14,7 @@ ghost use Rattle.record.specs.Range.{goodKeys, goodMode};
 ghost use Rattle.keying.specs.Handover.{handedWith, handedOver};
 
 // A handover goes on as far as the queue has room.
-pub fn hand_over(held: &mut Held, o: Outgoing, m: Mode, types: &Types) -> Passed
+pub fn hand_over(held: &mut Held, o: Outgoing, m: Mode, types: &Types) -> HandedRest
     requires { ⌜ (goodKeys (keysWith (now held) o) ≡ true) × (goodMode m ≡ true) ⌝ }
     ensures { λ r. ⌜ handedWith (now (held .exit)) r ≡ handedOver (keysWith (now (held .entry)) o) m (now (types .entry)) ⌝ }
 {
@@ -25,7 +25,7 @@ pub fn hand_over(held: &mut Held, o: Outgoing, m: Mode, types: &Types) -> Passed
             let s = bytes_of(held, m, types[key as usize], key, Action::Release);
             let q = e.queue;
             if !queue::fits(q, s) {
-                return Passed {
+                return HandedRest {
                     outgoing: e,
                     unfinished: true,
                 };
@@ -34,7 +34,7 @@ pub fn hand_over(held: &mut Held, o: Outgoing, m: Mode, types: &Types) -> Passed
         }
         key += 1;
     }
-    Passed {
+    HandedRest {
         outgoing: e,
         unfinished: false,
     }

@@ -6,21 +6,21 @@ pub mod moves; // moves.rt: a key goes down or comes up
 pub mod repeating; // repeating.rt: the key that repeats
 pub mod handover; // handover.rt: the keys of a panel that was taken away
 
-// The keys after a handover went on, and whether it is still open.
+// The keys after a handover went on, and whether it is still open. Definitions speak of it; the code gives the next.
 pub struct Handed {
     pub keys: Keys,
     pub unfinished: bool,
 }
 
-// The same where the flags of the held keys changed in place.
-pub struct Passed {
+// The same in place: the flags of the held keys were lent.
+pub struct HandedRest {
     pub outgoing: Outgoing,
     pub unfinished: bool,
 }
 
-// What goes to the terminal where the bytes that wait are lent: how many of them wait, the key that repeats, and its clock.
+// What goes to the terminal where the bytes that wait are lent: how many of them wait, the key that repeats, and its countdown.
 pub struct Told {
     pub length: u8,
     pub repeating: u8,
-    pub clock: u8,
+    pub countdown: u8,
 }

@@ -40,13 +40,13 @@ fn press(
     let mut e = t;
     e.length = send_press(held, bytes, t.length as usize, table, m, kind, key) as u8;
     held[key as usize] = 1;
-    if codes::strokes::may_repeat(m.set, key, kind) {
+    if codes::rows::may_repeat(m.set, key, kind) {
         e.repeating = key;
-        e.clock = delay_of(m.rate);
+        e.countdown = delay_of(m.rate);
         return e;
     }
     e.repeating = 0;
-    e.clock = 0;
+    e.countdown = 0;
     e
 }
 
@@ -68,7 +68,7 @@ fn release(
     held[key as usize] = 0;
     if t.repeating == key {
         e.repeating = 0;
-        e.clock = 0;
+        e.countdown = 0;
     }
     e
 }
@@ -83,7 +83,7 @@ fn let_go(held: &mut Held, o: Outgoing, key: u8, q: Queue) -> Outgoing
     held[key as usize] = 0;
     if o.repeating == key {
         e.repeating = 0;
-        e.clock = 0;
+        e.countdown = 0;
     }
     e
 }
@@ -176,7 +176,7 @@ pub fn turns(
     let mut e = Told {
         length: q.length as u8,
         repeating: o.repeating,
-        clock: o.clock,
+        countdown: o.countdown,
     };
     let mut c: usize = 0;
     while c < 18 {
@@ -191,6 +191,6 @@ pub fn turns(
             length: e.length as usize,
         },
         repeating: e.repeating,
-        clock: e.clock,
+        countdown: e.countdown,
     }
 }

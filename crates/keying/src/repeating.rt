@@ -31,11 +31,11 @@ fn interval_of(rate: u8) -> u8
 pub fn tick(o: Outgoing) -> Outgoing
     ensures { λ r. ⌜ r ≡ tickedOn o ⌝ }
 {
-    if o.clock == 0 {
+    if o.countdown == 0 {
         return o;
     }
     let mut e = o;
-    e.clock = o.clock - 1;
+    e.countdown = o.countdown - 1;
     e
 }
 
@@ -48,16 +48,16 @@ pub fn repeat(held: &Held, o: Outgoing, m: Mode, types: &Types, quiet: bool) -> 
     if key == 0 {
         return o;
     }
-    if o.clock != 0 {
+    if o.countdown != 0 {
         return o;
     }
     let kind = types[key as usize];
     let mut e = o;
-    if !codes::strokes::may_repeat(m.set, key, kind) {
+    if !codes::rows::may_repeat(m.set, key, kind) {
         e.repeating = 0;
         return e;
     }
-    e.clock = interval_of(m.rate);
+    e.countdown = interval_of(m.rate);
     if !quiet {
         return e;
     }

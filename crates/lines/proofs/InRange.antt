@@ -13,8 +13,8 @@ use Rattle.text.specs.declared.Kind.the-variants.{Read, Frame, Scan, Map, Malfo
 use Rattle.text.specs.Digits.{bytesFrom, frameIn}
 use Rattle.text.specs.Lines.{kindOf}
 use Rattle.lines.specs.declared.Stepped.{Stepped}
-use Rattle.lines.specs.declared.Walked.{Walked}
-use Rattle.lines.specs.Steps.{stepBy, stepOf, walkedWith}
+use Rattle.lines.specs.declared.SteppedRest.{SteppedRest}
+use Rattle.lines.specs.Steps.{stepBy, stepOf, steppedWith}
 
 kind-in-range : (kind : Kind) (d : Dock) (line : List ℕ) → inRange d ≡ true → inRange (stepBy kind d line .dock) ≡ true
 kind-in-range Read d line h = read-in-range d h
@@ -28,8 +28,8 @@ unfolding stepOf
 step-in-range d line h = rw h (kind-in-range (kindOf line) d line h)
 
 -- Of a record whose arrays were lent.
-pub walked-in-range : (map closed counts held types : List ℕ) (r : Rest) (line map′ closed′ counts′ held′ types′ : List ℕ) (x : Walked)
-    → walkedWith map′ closed′ counts′ held′ types′ x ≡ stepOf (dockWith map closed counts held types r) line
+pub stepped-in-range : (map closed counts held types : List ℕ) (r : Rest) (line map′ closed′ counts′ held′ types′ : List ℕ) (x : SteppedRest)
+    → steppedWith map′ closed′ counts′ held′ types′ x ≡ stepOf (dockWith map closed counts held types r) line
     → inRange (dockWith map closed counts held types r) ≡ true → inRange (dockWith map′ closed′ counts′ held′ types′ (x .rest)) ≡ true
-walked-in-range map closed counts held types r line map′ closed′ counts′ held′ types′ x e h =
+stepped-in-range map closed counts held types r line map′ closed′ counts′ held′ types′ x e h =
     subst (λ (y : Stepped). inRange (y .dock) ≡ true) (sym e) (step-in-range (dockWith map closed counts held types r) line h)

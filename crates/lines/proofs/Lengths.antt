@@ -14,8 +14,8 @@ use Rattle.text.specs.declared.Kind.the-variants.{Read, Frame, Scan, Map, Malfo
 use Rattle.text.specs.Digits.{bytesFrom, frameIn}
 use Rattle.text.specs.Lines.{kindOf}
 use Rattle.lines.specs.declared.Stepped.{Stepped}
-use Rattle.lines.specs.declared.Walked.{Walked}
-use Rattle.lines.specs.Steps.{stepBy, stepOf, walkedWith}
+use Rattle.lines.specs.declared.SteppedRest.{SteppedRest}
+use Rattle.lines.specs.Steps.{stepBy, stepOf, steppedWith}
 
 kind-sizes : (kind : Kind) (d : Dock) (line : List ℕ) → Sizes d → Sizes (stepBy kind d line .dock)
 kind-sizes Read d line s = read-sizes d s
@@ -29,11 +29,11 @@ unfolding stepOf
 step-sizes d line s = picked (λ (r : Stepped). Sizes (r .dock)) (inRange d) _ _ (kind-sizes (kindOf line) d line s) s
 
 -- The arrays that were lent.
-pub walked-lengths : (map closed counts held types : List ℕ) (r : Rest) (line map′ closed′ counts′ held′ types′ : List ℕ) (x : Walked)
-    → walkedWith map′ closed′ counts′ held′ types′ x ≡ stepOf (dockWith map closed counts held types r) line
+pub stepped-lengths : (map closed counts held types : List ℕ) (r : Rest) (line map′ closed′ counts′ held′ types′ : List ℕ) (x : SteppedRest)
+    → steppedWith map′ closed′ counts′ held′ types′ x ≡ stepOf (dockWith map closed counts held types r) line
     → length closed ≡ 18 → length counts ≡ 144
     → (length closed′ ≡ 18) × (length counts′ ≡ 144)
-walked-lengths map closed counts held types r line map′ closed′ counts′ held′ types′ x e b c =
+stepped-lengths map closed counts held types r line map′ closed′ counts′ held′ types′ x e b c =
     let s = step-sizes (dockWith map closed counts held types r) line (record { closed = b; counts = c }) in
-    let after : Sizes (walkedWith map′ closed′ counts′ held′ types′ x .dock) = subst (λ (y : Stepped). Sizes (y .dock)) (sym e) s in
+    let after : Sizes (steppedWith map′ closed′ counts′ held′ types′ x .dock) = subst (λ (y : Stepped). Sizes (y .dock)) (sym e) s in
     (after .closed, after .counts)

@@ -12,7 +12,7 @@ use Rattle.dock.specs.Frame.{frameOf}
 use Rattle.dock.specs.Read.{readOf}
 use Rattle.dock.specs.Scan.{scanOf}
 use Rattle.dock.specs.Swap.{swapOf}
-use Rattle.frames.specs.Frames as frames
+use Rattle.frames.specs.Frames.{packedOf}
 use Rattle.record.specs.declared.Dock.{Dock}
 use Rattle.record.specs.Apart.{dockWith}
 use Rattle.record.specs.Range.{inRange}
@@ -23,7 +23,7 @@ use Rattle.text.specs.Lines.{kindOf}
 use Rattle.lines.specs.declared.Printed.{Printed}
 use Rattle.lines.specs.declared.Printed.the-variants.{Silence, FrameLine, RefusalLine}
 use Rattle.lines.specs.declared.Stepped.{Stepped}
-use Rattle.lines.specs.declared.Walked.{Walked}
+use Rattle.lines.specs.declared.SteppedRest.{SteppedRest}
 
 -- An accepted line prints nothing; a refused one prints its number.
 abbrev pub answerPrints : Answer → Printed
@@ -32,8 +32,8 @@ answerPrints answer = pick (isAccepted answer) Silence (RefusalLine (numberOf an
 -- A read prints the frame of the byte given, or 000.
 abbrev pub readPrints : Given → Printed
 readPrints Nothing = FrameLine 0
-readPrints (Reply byte) = FrameLine (frames.frameOf byte)
-readPrints (KeyByte byte) = FrameLine (frames.frameOf byte)
+readPrints (Reply byte) = FrameLine (packedOf byte)
+readPrints (KeyByte byte) = FrameLine (packedOf byte)
 readPrints Refused = RefusalLine (readNumberOf Refused)
 
 -- The record and what is printed.
@@ -49,8 +49,8 @@ abbrev pub steppedRead : Taken → Stepped
 steppedRead r = stepped (r .dock) (readPrints (r .given))
 
 -- The same in place: the arrays as they are, and the rest.
-abbrev pub walkedWith : List ℕ → List ℕ → List ℕ → List ℕ → List ℕ → Walked → Stepped
-walkedWith map closed counts held types x = stepped (dockWith map closed counts held types (x .rest)) (x .printed)
+abbrev pub steppedWith : List ℕ → List ℕ → List ℕ → List ℕ → List ℕ → SteppedRest → Stepped
+steppedWith map closed counts held types x = stepped (dockWith map closed counts held types (x .rest)) (x .printed)
 
 -- What a line of a kind does.
 abbrev pub stepBy : Kind → Dock → List ℕ → Stepped

@@ -24,7 +24,7 @@ ghost use Rattle.dock.specs.Read.{readOf};
 ghost use Rattle.text.specs.Digits.{allDigits, bytesFrom, frameIn};
 ghost use Rattle.record.specs.Apart.{dockWith};
 ghost use Rattle.record.specs.Range.{inRange};
-ghost use Rattle.lines.specs.Steps.{answerPrints, readPrints, steppedBy, steppedRead, walkedWith, stepOf};
+ghost use Rattle.lines.specs.Steps.{answerPrints, readPrints, steppedBy, steppedRead, steppedWith, stepOf};
 
 // What a line prints.
 pub enum Printed {
@@ -43,7 +43,7 @@ pub struct Stepped {
 }
 
 // The same in place: the arrays were lent.
-pub struct Walked {
+pub struct SteppedRest {
     pub rest: Rest,
     pub printed: Printed,
 }
@@ -84,29 +84,29 @@ fn scan_line(
     types: &Types,
     r: Rest,
     line: &[u8],
-) -> Walked
+) -> SteppedRest
     requires { ⌜ (inRange (dockWith (now map) (now closed) (now counts) (now held) (now types) r) ≡ true) × (length (now closed) ≡ 18) × (length (now counts) ≡ 144) × (length (now line) ≡ 36) × (allDigits (now line) ≡ true) ⌝ }
-    ensures { λ x. ⌜ walkedWith (now (map .entry)) (now (closed .exit)) (now (counts .exit)) (now (held .exit)) (now (types .entry)) x ≡ steppedBy (scanOf (dockWith (now (map .entry)) (now (closed .entry)) (now (counts .entry)) (now (held .entry)) (now (types .entry)) r) (bytesFrom (now (line .entry)) 0 18)) ⌝ }
+    ensures { λ x. ⌜ steppedWith (now (map .entry)) (now (closed .exit)) (now (counts .exit)) (now (held .exit)) (now (types .entry)) x ≡ steppedBy (scanOf (dockWith (now (map .entry)) (now (closed .entry)) (now (counts .entry)) (now (held .entry)) (now (types .entry)) r) (bytesFrom (now (line .entry)) 0 18)) ⌝ }
 {
     let scan = text::digits::scan_in(line);
     let x = panel::scan::scan_in_place(map, closed, counts, held, types, r, &scan);
     let rest = x.rest;
     let answer = x.answer;
-    Walked {
+    SteppedRest {
         rest,
         printed: answer_prints(answer),
     }
 }
 
 // An empty line: a read.
-fn read_line(held: &mut Held, types: &Types, r: Rest) -> Walked
+fn read_line(held: &mut Held, types: &Types, r: Rest) -> SteppedRest
     requires { ⌜ restInRange (now held) (now types) r ≡ true ⌝ }
-    ensures { λ x. ⌜ ((map closed counts : List ℕ) → inRange (dockWith map closed counts (now (held .entry)) (now (types .entry)) r) ≡ true → walkedWith map closed counts (now (held .exit)) (now (types .entry)) x ≡ steppedRead (readOf (dockWith map closed counts (now (held .entry)) (now (types .entry)) r))) ⌝ }
+    ensures { λ x. ⌜ ((map closed counts : List ℕ) → inRange (dockWith map closed counts (now (held .entry)) (now (types .entry)) r) ≡ true → steppedWith map closed counts (now (held .exit)) (now (types .entry)) x ≡ steppedRead (readOf (dockWith map closed counts (now (held .entry)) (now (types .entry)) r))) ⌝ }
 {
     let x = wire::read::read_in_place(held, types, r);
     let rest = x.rest;
     let given = x.given;
-    Walked {
+    SteppedRest {
         rest,
         printed: read_prints(given),
     }
@@ -120,15 +120,15 @@ fn frame_line(
     types: &mut Types,
     r: Rest,
     line: &[u8],
-) -> Walked
+) -> SteppedRest
     requires { ⌜ (restInRange (now held) (now types) r ≡ true) × (length (now line) ≡ 3) × (allDigits (now line) ≡ true) ⌝ }
-    ensures { λ x. ⌜ ((map : List ℕ) → inRange (dockWith map (now (closed .entry)) (now (counts .entry)) (now (held .entry)) (now (types .entry)) r) ≡ true → walkedWith map (now (closed .exit)) (now (counts .exit)) (now (held .exit)) (now (types .exit)) x ≡ steppedBy (frameOf (dockWith map (now (closed .entry)) (now (counts .entry)) (now (held .entry)) (now (types .entry)) r) (frameIn (now (line .entry))))) ⌝ }
+    ensures { λ x. ⌜ ((map : List ℕ) → inRange (dockWith map (now (closed .entry)) (now (counts .entry)) (now (held .entry)) (now (types .entry)) r) ≡ true → steppedWith map (now (closed .exit)) (now (counts .exit)) (now (held .exit)) (now (types .exit)) x ≡ steppedBy (frameOf (dockWith map (now (closed .entry)) (now (counts .entry)) (now (held .entry)) (now (types .entry)) r) (frameIn (now (line .entry))))) ⌝ }
 {
     let number = text::digits::frame_in(line);
     let x = wire::frame::frame_in_place(closed, counts, held, types, r, number);
     let rest = x.rest;
     let answer = x.answer;
-    Walked {
+    SteppedRest {
         rest,
         printed: answer_prints(answer),
     }
@@ -143,15 +143,15 @@ fn map_line(
     types: &Types,
     r: Rest,
     line: &[u8],
-) -> Walked
+) -> SteppedRest
     requires { ⌜ (inRange (dockWith (now map) (now closed) (now counts) (now held) (now types) r) ≡ true) × (length (now line) ≡ 288) × (allDigits (now line) ≡ true) ⌝ }
-    ensures { λ x. ⌜ walkedWith (now (map .exit)) (now (closed .exit)) (now (counts .exit)) (now (held .exit)) (now (types .entry)) x ≡ steppedBy (swapOf (dockWith (now (map .entry)) (now (closed .entry)) (now (counts .entry)) (now (held .entry)) (now (types .entry)) r) (bytesFrom (now (line .entry)) 0 144)) ⌝ }
+    ensures { λ x. ⌜ steppedWith (now (map .exit)) (now (closed .exit)) (now (counts .exit)) (now (held .exit)) (now (types .entry)) x ≡ steppedBy (swapOf (dockWith (now (map .entry)) (now (closed .entry)) (now (counts .entry)) (now (held .entry)) (now (types .entry)) r) (bytesFrom (now (line .entry)) 0 144)) ⌝ }
 {
     let new = text::digits::map_in(line);
     let x = panel::swap::swap_in_place(map, closed, counts, held, types, r, &new);
     let rest = x.rest;
     let answer = x.answer;
-    Walked {
+    SteppedRest {
         rest,
         printed: answer_prints(answer),
     }
@@ -166,9 +166,9 @@ pub fn step_in_place(
     types: &mut Types,
     r: Rest,
     line: &[u8],
-) -> Walked
+) -> SteppedRest
     requires { ⌜ (inRange (dockWith (now map) (now closed) (now counts) (now held) (now types) r) ≡ true) × (length (now closed) ≡ 18) × (length (now counts) ≡ 144) ⌝ }
-    ensures { λ x. ⌜ walkedWith (now (map .exit)) (now (closed .exit)) (now (counts .exit)) (now (held .exit)) (now (types .exit)) x ≡ stepOf (dockWith (now (map .entry)) (now (closed .entry)) (now (counts .entry)) (now (held .entry)) (now (types .entry)) r) (now (line .entry)) ⌝ }
+    ensures { λ x. ⌜ steppedWith (now (map .exit)) (now (closed .exit)) (now (counts .exit)) (now (held .exit)) (now (types .exit)) x ≡ stepOf (dockWith (now (map .entry)) (now (closed .entry)) (now (counts .entry)) (now (held .entry)) (now (types .entry)) r) (now (line .entry)) ⌝ }
 {
     let kind = text::kinds::kind_of(line);
     match kind {
@@ -176,7 +176,7 @@ pub fn step_in_place(
         Kind::Read => read_line(held, types, r),
         Kind::Frame => frame_line(closed, counts, held, types, r, line),
         Kind::Map => map_line(map, closed, counts, held, types, r, line),
-        Kind::Malformed => Walked {
+        Kind::Malformed => SteppedRest {
             rest: r,
             printed: Printed::RefusalLine(8),
         },

@@ -8,7 +8,7 @@ use Rattle.contacts.specs.Phantom.{isPhantom}
 use Rattle.keying.specs.Repeat.{delayOf, intervalOf}
 use Rattle.keys.specs.Keys.{markOf}
 use Rattle.queue.specs.Queues.{pushedTo}
-use Rattle.frames.specs.Frames.{frameOf}
+use Rattle.frames.specs.Frames.{packedOf}
 use Rattle.codes.specs.declared.Action.the-variants.{Press, Release}
 use Rattle.codes.specs.Codes.{encode}
 
@@ -43,10 +43,10 @@ bothShifts = 3
 unfoldable pub examples : List Example
 examples =
     -- P1 to P4: frames.
-    example (frameOf 0xfa ∷ []) (0x7f4 ∷ []) ∷
-    example (frameOf 0x01 ∷ []) (0x402 ∷ []) ∷
-    example (frameOf 0xff ∷ []) (0x7fe ∷ []) ∷
-    example (frameOf 0x00 ∷ []) (0x600 ∷ []) ∷
+    example (packedOf 0xfa ∷ []) (0x7f4 ∷ []) ∷
+    example (packedOf 0x01 ∷ []) (0x402 ∷ []) ∷
+    example (packedOf 0xff ∷ []) (0x7fe ∷ []) ∷
+    example (packedOf 0x00 ∷ []) (0x600 ∷ []) ∷
     -- P5 and P6: delay and interval of a rate.
     example (delayOf 0x2b ∷ intervalOf 0x2b ∷ []) (120 ∷ 22 ∷ []) ∷
     example (delayOf 0x7f ∷ intervalOf 0x7f ∷ []) (240 ∷ 120 ∷ []) ∷

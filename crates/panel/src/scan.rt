@@ -2,7 +2,7 @@
 use contacts::Columns;
 use contacts::Counts;
 use dock::Answer;
-use dock::Done;
+use dock::AnsweredRest;
 use dock::closing::close_in_place;
 use record::Held;
 use record::Map;
@@ -116,23 +116,23 @@ pub fn scan_in_place(
     types: &Types,
     r: Rest,
     scan: &[u8],
-) -> Done
+) -> AnsweredRest
     requires { ⌜ (inRange (dockWith (now map) (now closed) (now counts) (now held) (now types) r) ≡ true) × (length (now closed) ≡ 18) × (length (now counts) ≡ 144) ⌝ }
     ensures { λ x. ⌜ answeredWith (now (map .entry)) (now (closed .exit)) (now (counts .exit)) (now (held .exit)) (now (types .entry)) x ≡ scanOf (dockWith (now (map .entry)) (now (closed .entry)) (now (counts .entry)) (now (held .entry)) (now (types .entry)) r) (now (scan .entry)) ⌝ }
 {
     if scan.len() != 18 {
-        return Done {
+        return AnsweredRest {
             answer: Answer::ScanLength,
             rest: r,
         };
     }
     if !is_listening(r) {
-        return Done {
+        return AnsweredRest {
             answer: Answer::Accepted,
             rest: close_in_place(held, types, r),
         };
     }
-    Done {
+    AnsweredRest {
         answer: Answer::Accepted,
         rest: hear(map, closed, counts, held, types, r, scan),
     }

@@ -2,7 +2,7 @@
 use contacts::Columns;
 use contacts::Counts;
 use dock::Answer;
-use dock::Done;
+use dock::AnsweredRest;
 use dock::closing::go_on;
 use maps::copied;
 use maps::has_double;
@@ -32,7 +32,7 @@ fn open_handover(closed: &mut Columns, counts: &mut Counts, r: Rest) -> Rest
     *counts = no_counts;
     let mut o = r.outgoing;
     o.repeating = 0;
-    o.clock = 0;
+    o.countdown = 0;
     let mut e = r;
     e.outgoing = o;
     e.handover = true;
@@ -48,32 +48,32 @@ pub fn swap_in_place(
     types: &Types,
     r: Rest,
     new: &[u8],
-) -> Done
+) -> AnsweredRest
     requires { ⌜ inRange (dockWith (now map) (now closed) (now counts) (now held) (now types) r) ≡ true ⌝ }
     ensures { λ x. ⌜ answeredWith (now (map .exit)) (now (closed .exit)) (now (counts .exit)) (now (held .exit)) (now (types .entry)) x ≡ swapOf (dockWith (now (map .entry)) (now (closed .entry)) (now (counts .entry)) (now (held .entry)) (now (types .entry)) r) (now (new .entry)) ⌝ }
 {
     if new.len() != 144 {
-        return Done {
+        return AnsweredRest {
             answer: Answer::MapLength,
             rest: r,
         };
     }
     let m = copied(new);
     if !record::range::all_up_to(keys::LAST_KEY, &m) {
-        return Done {
+        return AnsweredRest {
             answer: Answer::MapEntry,
             rest: r,
         };
     }
     if has_double(&m) {
-        return Done {
+        return AnsweredRest {
             answer: Answer::MapDouble,
             rest: r,
         };
     }
     *map = m;
     let e = open_handover(closed, counts, r);
-    Done {
+    AnsweredRest {
         answer: Answer::Accepted,
         rest: go_on(held, types, e),
     }

@@ -84,7 +84,7 @@ pub fn push(bytes: &mut [u8; 16], at: usize, s: Sequence, mark: u8) -> usize
 }
 
 // The queue without its oldest byte. Zeros stand behind the bytes as it is, and the test in the loop changes nothing: with it the
-// compiler leaves the loop as it stands, and every line of the bench is a tenth quicker (docs/SPEED.md).
+// compiler leaves the loop as it stands, and most lines of the bench are quicker, an idle one by a tenth (docs/SPEED.md).
 pub fn popped(q: Queue) -> Queue
     requires { ⌜ tidy q ≡ true ⌝ }
     ensures { λ r. ⌜ r ≡ queueOf (drop 1 (waiting q)) ⌝ }

@@ -16,7 +16,7 @@ pub joined-mode : (m : Mode) → (leb 1 (m .set) && leb (m .set) 3 && leb (m .ra
 unfolding goodMode
 joined-mode m = and-assoc (between 1 3 (m .set)) (leb (m .rate) 127) (leb (m .indicators) 7)
 
-pub joined-keys : (k : Keys) (queue : Bool) → queue ≡ tidy (k .queue) → (queue && leb (k .repeating) lastKey && leb (k .clock) 240) ≡ goodKeys k
+pub joined-keys : (k : Keys) (queue : Bool) → queue ≡ tidy (k .queue) → (queue && leb (k .repeating) lastKey && leb (k .countdown) 240) ≡ goodKeys k
 unfolding goodKeys
 joined-keys k queue e = rw (← e) (simp and-assoc)
 

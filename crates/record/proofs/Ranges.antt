@@ -47,22 +47,22 @@ module _ (k : Keys) (h : goodKeys k ≡ true) where
   unfolding goodKeys
   good-keys-repeating = leb-true (k .repeating) lastKey (search (left-of-both, right-of-both))
 
-  pub good-keys-clock : k .clock ≤ 240
+  pub good-keys-countdown : k .countdown ≤ 240
   unfolding goodKeys
-  good-keys-clock = leb-true (k .clock) 240 (search (left-of-both, right-of-both))
+  good-keys-countdown = leb-true (k .countdown) 240 (search (left-of-both, right-of-both))
 
   -- With another queue, and with another key repeating.
   pub good-keys-with-queue : (queue : Queue) → tidy queue ≡ true → goodKeys (withQueue k queue) ≡ true
   unfolding goodKeys
   good-keys-with-queue queue g = rw g (rw good-keys-queue at h)
 
-  pub good-keys-with-repeat : (key clock : ℕ) → key ≤ lastKey → clock ≤ 240 → goodKeys (withRepeat k key clock) ≡ true
+  pub good-keys-with-repeat : (key countdown : ℕ) → key ≤ lastKey → countdown ≤ 240 → goodKeys (withRepeat k key countdown) ≡ true
   unfolding goodKeys
-  good-keys-with-repeat key clock g f = rw (good-keys-queue, le-leb key lastKey g) (le-leb clock 240 f)
+  good-keys-with-repeat key countdown g f = rw (good-keys-queue, le-leb key lastKey g) (le-leb countdown 240 f)
 
-pub good-keys : (k : Keys) → tidy (k .queue) ≡ true → k .repeating ≤ lastKey → k .clock ≤ 240 → goodKeys k ≡ true
+pub good-keys : (k : Keys) → tidy (k .queue) ≡ true → k .repeating ≤ lastKey → k .countdown ≤ 240 → goodKeys k ≡ true
 unfolding goodKeys
-good-keys k b c e = rw (b, le-leb (k .repeating) lastKey c) (le-leb (k .clock) 240 e)
+good-keys k b c e = rw (b, le-leb (k .repeating) lastKey c) (le-leb (k .countdown) 240 e)
 
 -- The record.
 pub in-range : (d : Dock) → allUpTo lastKey (d .map) ≡ true → goodKeys (d .keys) ≡ true → goodMode (d .mode) ≡ true → tidyReplies (d .replies) ≡ true

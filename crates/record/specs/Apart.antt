@@ -11,7 +11,7 @@ use Rattle.record.specs.Parts.{dock, keys}
 
 -- The keys without the array, and all of the record but its arrays.
 abbrev pub outgoingOf : Keys → Outgoing
-outgoingOf k = record { queue = k .queue; repeating = k .repeating; clock = k .clock }
+outgoingOf k = record { queue = k .queue; repeating = k .repeating; countdown = k .countdown }
 
 abbrev pub restOf : Dock → Rest
 restOf d =
@@ -27,7 +27,7 @@ restOf d =
 
 -- The keys, and the record, of these parts.
 abbrev pub keysWith : List ℕ → Outgoing → Keys
-keysWith held o = keys held (o .queue) (o .repeating) (o .clock)
+keysWith held o = keys held (o .queue) (o .repeating) (o .countdown)
 
 abbrev pub dockWith : List ℕ → List ℕ → List ℕ → List ℕ → List ℕ → Rest → Dock
 dockWith map closed counts held types r =

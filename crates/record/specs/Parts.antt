@@ -58,10 +58,10 @@ withGiven d given = dock (d .map) (d .contacts) (d .keys) (d .types) (d .mode) (
 
 -- The keys by their four parts, with another queue, and with another key repeating.
 abbrev pub keys : List ℕ → Queue → ℕ → ℕ → Keys
-keys held queue repeating clock = record { held = held; queue = queue; repeating = repeating; clock = clock }
+keys held queue repeating countdown = record { held = held; queue = queue; repeating = repeating; countdown = countdown }
 
 abbrev pub withQueue : Keys → Queue → Keys
-withQueue k queue = keys (k .held) queue (k .repeating) (k .clock)
+withQueue k queue = keys (k .held) queue (k .repeating) (k .countdown)
 
 abbrev pub withRepeat : Keys → ℕ → ℕ → Keys
-withRepeat k key clock = keys (k .held) (k .queue) key clock
+withRepeat k key countdown = keys (k .held) (k .queue) key countdown

@@ -33,7 +33,7 @@ freshWith map replies =
     record {
       map = map;
       contacts = unseen;
-      keys = record { held = replicate 144 0; queue = queueOf []; repeating = 0; clock = 0 };
+      keys = record { held = replicate 144 0; queue = queueOf []; repeating = 0; countdown = 0 };
       types = defaultTypes;
       mode = record { set = 2; rate = defaultRate; indicators = 0 };
       replies = replies;

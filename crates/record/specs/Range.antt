@@ -15,9 +15,9 @@ use Rattle.record.specs.declared.Dock.{Dock}
 unfoldable pub goodMode : Mode → Bool
 goodMode m = both (between 1 3 (m .set)) (both (leb (m .rate) 127) (leb (m .indicators) 7))
 
--- A queue, a key or none, and a clock that no interval outlasts. A flag of `held` that is not 0 says that its key is held.
+-- A queue, a key or none, and a countdown that no interval outlasts. A flag of `held` that is not 0 says that its key is held.
 unfoldable pub goodKeys : Keys → Bool
-goodKeys k = both (tidy (k .queue)) (both (leb (k .repeating) lastKey) (leb (k .clock) 240))
+goodKeys k = both (tidy (k .queue)) (both (leb (k .repeating) lastKey) (leb (k .countdown) 240))
 
 -- A command that takes a value.
 abbrev pub takesValue : ℕ → Bool

@@ -20,7 +20,7 @@ fn outgoing_of(k: Keys) -> Outgoing
     Outgoing {
         queue,
         repeating: k.repeating,
-        clock: k.clock,
+        countdown: k.countdown,
     }
 }
 
@@ -51,7 +51,7 @@ fn keys_with(held: Held, o: Outgoing) -> Keys
         held,
         queue,
         repeating: o.repeating,
-        clock: o.clock,
+        countdown: o.countdown,
     }
 }
 

@@ -28,7 +28,7 @@ pub struct Keys {
     pub held: Held, // by key number: 0 not held, else held; a place that is no key's is never set
     pub queue: Queue, // the key bytes that wait
     pub repeating: u8, // the key that repeats, 0 for none
-    pub clock: u8, // the scans until its next repeat: 0 to 240
+    pub countdown: u8, // the scans until its next repeat: 0 to 240
 }
 
 // All that the dock knows.
@@ -49,7 +49,7 @@ pub struct Dock {
 pub struct Outgoing {
     pub queue: Queue,
     pub repeating: u8,
-    pub clock: u8,
+    pub countdown: u8,
 }
 
 // All but the five arrays.

@@ -51,7 +51,7 @@ pub fn fresh_rest(replies: Replies) -> Rest
         outgoing: Outgoing {
             queue: queue::empty(),
             repeating: 0,
-            clock: 0,
+            countdown: 0,
         },
         mode: Mode {
             set: 2,

@@ -29,12 +29,12 @@ fn is_good_mode(m: Mode) -> bool
     (1 <= m.set) & (m.set <= 3) & (m.rate <= 127) & (m.indicators <= 7)
 }
 
-// A queue, a key or none, and a clock that no interval outlasts.
+// A queue, a key or none, and a countdown that no interval outlasts.
 fn is_good_keys(k: Keys) -> bool
     ensures { λ r. ⌜ r ≡ goodKeys k ⌝ }
 {
     let q = k.queue;
-    queue::is_tidy(q) & (k.repeating <= keys::LAST_KEY) & (k.clock <= 240)
+    queue::is_tidy(q) & (k.repeating <= keys::LAST_KEY) & (k.countdown <= 240)
 }
 
 // A command that takes a value.

@@ -18,7 +18,7 @@ use Rattle.sending.specs.Sending.{sends, queuedOf}
 use Rattle.keying.specs.Moves.{pressed, releasedWith, released, moved, turned, turnsTo}
 use Rattle.keying.specs.Repeat.{delayOf, intervalOf, repeated}
 use Rattle.keying.specs.Handover.{handedFrom}
-use Rattle.frames.specs.Frames.{parity, frameOf as packedOf, whole, unpackedOf}
+use Rattle.frames.specs.Frames.{parity, packedOf, whole, unpackedOf}
 use Rattle.host.specs.Commands.{obeyed, replyTo, commanded, rightValue, valued, tookValue, tookByte}
 use Rattle.maps.specs.Maps.{isIn, hasDouble}
 use Rattle.dock.specs.Closing.{closing}

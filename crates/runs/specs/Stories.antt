@@ -6,7 +6,7 @@ use lib.Dec.{eqb}
 use lib.ListN.{replicate, set}
 use Rattle.basics.specs.Choice.{pick}
 use Rattle.dock.specs.Scan.{quiet}
-use Rattle.frames.specs.Frames.{frameOf}
+use Rattle.frames.specs.Frames.{packedOf}
 use Rattle.history.specs.Rows.{saysClosed}
 use Rattle.history.specs.Scans.{shownAt}
 use Rattle.runs.specs.Bytes.{givenIn}
@@ -74,7 +74,7 @@ reads n = replicate n Read
 
 -- A byte from the host, and the read of its reply.
 unfoldable pub host : ℕ → List Call
-host byte = Frame (frameOf byte) ∷ Read ∷ []
+host byte = Frame (packedOf byte) ∷ Read ∷ []
 
 -- So many scans that show the same.
 abbrev pub scans : ℕ → List ℕ → List Call

@@ -8,7 +8,7 @@ use borrow.Author.Tests.{lt-leb, eq-eqb, ne-eqb, eqb-false}
 use lib.Dec.{eqb}
 use lib.ListN.{length, length-append, set as put}
 use Rattle.basics.specs.Choice.{pick, both, either}
-use Rattle.basics.proofs.Cases.{picked, two-by-cases}
+use Rattle.basics.proofs.Cases.{picked, never, two-by-cases}
 use Rattle.codes.specs.declared.Action.the-variants.{Press, Release}
 use Rattle.codes.specs.declared.Sequence.{Sequence}
 use Rattle.codes.specs.Codes.{prefix, makeOf, breakOf, before, after, codeOf, isOther, isPause, pausesAtOnce, pauseBytes, sendsRelease, bytesOf, encode, formOf}
@@ -61,10 +61,7 @@ module _ (set key type modifiers : ℕ) (lock silent : Bool)
       go : (p s : Bool) → either p (not s) ≡ true → pick p [] (pick s broken []) ≡ []
       go true s n = refl
       go false false n = refl
-      go false true n =
-          let y : false ≡ true = n in
-          let z : _≡_ {A = ℕ} 0 1 = cc in
-          absurd (omega arith)
+      go false true n = never false n refl
 
   pub release-long : silent ≡ false → shortestRelease set ≤ length (encode set key Release type modifiers lock)
   unfolding encode bytesOf broken
@@ -75,14 +72,8 @@ module _ (set key type modifiers : ℕ) (lock silent : Bool)
           ahead (shortestRelease set) (breakOf set (codeOf set key (formOf set key modifiers lock)))
           (after set (formOf set key modifiers lock))
           (break-long set (codeOf set key (formOf set key modifiers lock)))
-      go true s n =
-          let y : true ≡ false = n in
-          let z : _≡_ {A = ℕ} 0 1 = cc in
-          absurd (omega arith)
-      go false false n =
-          let y : true ≡ false = n in
-          let z : _≡_ {A = ℕ} 0 1 = cc in
-          absurd (omega arith)
+      go true s n = never true refl n
+      go false false n = never true refl n
 
 -- Where the shortest release has no room, some byte waits, and no longer one has room either.
 pub little-room : (set at n : ℕ) → n ≡ shortestRelease set → 16 - at < n → 1 ≤ at

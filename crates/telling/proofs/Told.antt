@@ -123,7 +123,7 @@ module _ (m : Mode) (h : (m .set ≡ 1) ⊎ (m .set ≡ 2)) (t : Terminal) where
         (record {
           told = by-cases (λ (q : Queue). hearsAll (m .set) t (waiting q) ≡ terminal 0 (set (k .held) 101 0)) quiet _ _
               (λ now.
-              let other = eqb-false key 0 (not-true _ (left-of-both (not (eqb key 0)) (eqb (k .clock) 0) due)) in
+              let other = eqb-false key 0 (not-true _ (left-of-both (not (eqb key 0)) (eqb (k .countdown) 0) due)) in
               let down : getD (k .held) key 0 ≡ 1 = ⊎-elim (λ z. absurd (other z)) (λ d. d) held in
               rw (waiting-queueOf, told-empty (m .set) t k (none now) p)
               (repeat-heard (m .set) h key (omega arith) high type (modifiersOf (k .held)) (numLock (m .indicators)) (k .held) down))

@@ -1,4 +1,4 @@
--- The kinds of line (docs/RULES.md, section 12). Assumes nothing.
+-- The kinds of line, and where a line ends (docs/RULES.md, section 12). Assumes nothing.
 use Prim.Native.Nat.{ℕ, zero, suc, _+_}
 use mathlib.Core.Bool.{Bool, false, not}
 use mathlib.Core.List.{List, [], _∷_}

@@ -6,7 +6,7 @@ ghost use Prim.Native.Nat.{_≤_, _+_};
 ghost use lib.ListN.{length};
 ghost use Rattle.text.specs.Lines.{kindOf, newlineAmong, endsAfter, lineEnd};
 
-// What kind a line is, its newline apart.
+// What kind a line is, its newline apart. The length is asked first, so that the digits are gone through in a loop of known length.
 pub fn kind_of(line: &[u8]) -> Kind
     ensures { λ r. ⌜ r ≡ kindOf (now (line .entry)) ⌝ }
 {

@@ -4,9 +4,14 @@ pub mod kinds; // kinds.rt: where a line ends, and what kind it is
 
 // What a line can be.
 pub enum Kind {
+    // Nothing in it.
     Read,
+    // 3 digits.
     Frame,
+    // 36 digits.
     Scan,
+    // 288 digits.
     Map,
+    // Anything else.
     Malformed,
 }

@@ -2,7 +2,7 @@
 use contacts::Columns;
 use contacts::Counts;
 use dock::Answer;
-use dock::Done;
+use dock::AnsweredRest;
 use dock::closing::close_in_place;
 use frames::Unpacked;
 use host::reply;
@@ -28,23 +28,23 @@ pub fn frame_in_place(
     types: &mut Types,
     r: Rest,
     number: u32,
-) -> Done
+) -> AnsweredRest
     requires { ⌜ restInRange (now held) (now types) r ≡ true ⌝ }
     ensures { λ x. ⌜ ((map : List ℕ) → inRange (dockWith map (now (closed .entry)) (now (counts .entry)) (now (held .entry)) (now (types .entry)) r) ≡ true → answeredWith map (now (closed .exit)) (now (counts .exit)) (now (held .exit)) (now (types .exit)) x ≡ frameOf (dockWith map (now (closed .entry)) (now (counts .entry)) (now (held .entry)) (now (types .entry)) r) number) ⌝ }
 {
     let unpacked = frames::unpack(number);
     match unpacked {
-        Unpacked::TooLarge => Done {
+        Unpacked::TooLarge => AnsweredRest {
             answer: Answer::FrameNumber,
             rest: r,
         },
-        Unpacked::Broken => Done {
+        Unpacked::Broken => AnsweredRest {
             answer: Answer::Accepted,
             rest: close_in_place(held, types, reply(r, 0xfe)),
         },
         Unpacked::Byte(byte) => {
             let e = take(closed, counts, held, types, r, byte);
-            Done {
+            AnsweredRest {
                 answer: Answer::Accepted,
                 rest: close_in_place(held, types, e),
             }

@@ -1,6 +1,6 @@
 // The next byte for the host.
-use dock::Gave;
 use dock::Given;
+use dock::TakenRest;
 use dock::closing::close_in_place;
 use record::Held;
 use record::Rest;
@@ -29,7 +29,7 @@ fn remember(r: Rest, byte: u8) -> Rest
 }
 
 // The oldest reply.
-fn take_reply(held: &mut Held, types: &Types, r: Rest) -> Gave
+fn take_reply(held: &mut Held, types: &Types, r: Rest) -> TakenRest
     requires { ⌜ (restInRange (now held) (now types) r ≡ true) × (1 ≤ r .replies .length) ⌝ }
     ensures { λ x. ⌜ ((map closed counts : List ℕ) → takenWith map closed counts (now (held .exit)) (now (types .entry)) x ≡ replyTaken (dockWith map closed counts (now (held .entry)) (now (types .entry)) r)) ⌝ }
 {
@@ -37,14 +37,14 @@ fn take_reply(held: &mut Held, types: &Types, r: Rest) -> Gave
     let byte = q.bytes[0];
     let mut e = r;
     e.replies = queue::replies::popped(q);
-    Gave {
+    TakenRest {
         given: Given::Reply(byte),
         rest: close_in_place(held, types, remember(e, byte)),
     }
 }
 
 // The oldest key byte.
-fn take_key_byte(held: &mut Held, types: &Types, r: Rest) -> Gave
+fn take_key_byte(held: &mut Held, types: &Types, r: Rest) -> TakenRest
     requires { ⌜ (restInRange (now held) (now types) r ≡ true) × (1 ≤ r .outgoing .queue .length) ⌝ }
     ensures { λ x. ⌜ ((map closed counts : List ℕ) → takenWith map closed counts (now (held .exit)) (now (types .entry)) x ≡ keyByteTaken (dockWith map closed counts (now (held .entry)) (now (types .entry)) r)) ⌝ }
 {
@@ -54,14 +54,14 @@ fn take_key_byte(held: &mut Held, types: &Types, r: Rest) -> Gave
     o.queue = queue::popped(q);
     let mut e = r;
     e.outgoing = o;
-    Gave {
+    TakenRest {
         given: Given::KeyByte(byte),
         rest: close_in_place(held, types, remember(e, byte)),
     }
 }
 
 // The read call in place, of a record in its range, whatever the map and the contacts are.
-pub fn read_in_place(held: &mut Held, types: &Types, r: Rest) -> Gave
+pub fn read_in_place(held: &mut Held, types: &Types, r: Rest) -> TakenRest
     requires { ⌜ restInRange (now held) (now types) r ≡ true ⌝ }
     ensures { λ x. ⌜ ((map closed counts : List ℕ) → inRange (dockWith map closed counts (now (held .entry)) (now (types .entry)) r) ≡ true → takenWith map closed counts (now (held .exit)) (now (types .entry)) x ≡ readOf (dockWith map closed counts (now (held .entry)) (now (types .entry)) r)) ⌝ }
 {
@@ -74,7 +74,7 @@ pub fn read_in_place(held: &mut Held, types: &Types, r: Rest) -> Gave
     if q.length != 0 {
         return take_key_byte(held, types, r);
     }
-    Gave {
+    TakenRest {
         given: Given::Nothing,
         rest: close_in_place(held, types, r),
     }

@@ -15,6 +15,7 @@ run-in-place-requires c κs =
     let rest = c .before .before .before .before .before .before in
     let s = c .before .before .before .before .before .before .before .before .before .before .before .before .before .before .before .before in
     let d = s .args .d in
+    -- Of what is known of the parameters: the contacts' arrays have their sizes.
     let contacts = s .good .0 .1 .1 .1 .0 in (
       s .pre .1,
       s .pre .2,

@@ -6,8 +6,8 @@ use Prim.Native.Nat.{_≤_, _+_, _-_, _*_}
 use native.Mathlib.Omega.{arith}
 use borrow.Author.Needs.{needs}
 use lib.ListN.{length}
-use Rattle.lines.proofs.InRange.{walked-in-range}
-use Rattle.lines.proofs.Lengths.{walked-lengths}
+use Rattle.lines.proofs.InRange.{stepped-in-range}
+use Rattle.lines.proofs.Lengths.{stepped-lengths}
 use Rattle.record.specs.Apart.{dockWith}
 use Rattle.record.specs.Range.{inRange}
 use Rattle.text.proofs.Newlines.{line-end-after, line-end-within}
@@ -70,9 +70,9 @@ loop-again c =
     let inside : e + 1 ≤ length t = omega (arith, c .before .before .before .before .before .before .before .before .before .before .before .before .before .loop-test .taken) in
     let x = c .before .before .before .before .before .before .step-in-place in
     let i = l .loop .inv in
-    let kept = walked-in-range (l .loop .map) (l .loop .closed) (l .loop .counts) (l .loop .held) (l .loop .types) (l .loop .rest) _
+    let kept = stepped-in-range (l .loop .map) (l .loop .closed) (l .loop .counts) (l .loop .held) (l .loop .types) (l .loop .rest) _
     (x .last .0) (x .last .1 .0) (x .last .1 .1 .0) (x .last .1 .1 .1 .0) (x .last .1 .1 .1 .1 .0) (x .result) (x .ensures) (i .4) in
-    let sizes = walked-lengths (l .loop .map) (l .loop .closed) (l .loop .counts) (l .loop .held) (l .loop .types) (l .loop .rest) _
+    let sizes = stepped-lengths (l .loop .map) (l .loop .closed) (l .loop .counts) (l .loop .held) (l .loop .types) (l .loop .rest) _
     (x .last .0) (x .last .1 .0) (x .last .1 .1 .0) (x .last .1 .1 .1 .0) (x .last .1 .1 .1 .1 .0) (x .result) (x .ensures) (i .5) (i .6) in (
       omega (arith, c .end-of2 .ensures, line-end-after t (e + 1)),
       omega (arith, c .end-of2 .ensures, line-end-within t (e + 1) inside),

@@ -28,6 +28,7 @@ scan-in-place-requires c κs =
     let s = looked .before .before .before in
     let d = s .args .d in
     let known = apart-in-range d _ _ (rest .rest-of .ensures) (looked .before .in-range .ensures) (not-false _ (looked .if1 .left)) in
+    -- Of what is known of the parameters: the contacts' arrays have their sizes.
     let contacts = s .good .0 .1 .1 .1 .0 in
     (known, search (needs, contacts), search (needs, contacts))
 

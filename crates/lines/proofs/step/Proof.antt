@@ -26,6 +26,7 @@ step-in-place-requires c κs =
     let looked = rest .before .before .before .before .before .before .before .before in
     let s = looked .before .before .before in
     let known = apart-in-range (s .args .d) _ _ (rest .rest-of .ensures) (looked .before .in-range .ensures) (not-false _ (looked .if1 .left)) in
+    -- Of what is known of the parameters: the contacts' arrays have their sizes.
     let contacts = s .good .0 .1 .1 .1 .0 in
     (known, search (needs, contacts), search (needs, contacts))
 

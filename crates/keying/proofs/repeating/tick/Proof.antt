@@ -1,14 +1,14 @@
--- `keying::repeating::tick` meets its contract: a clock at 0 stays there. Assumes nothing.
+-- `keying::repeating::tick` meets its contract: a countdown at 0 stays there. Assumes nothing.
 use mathlib.Core.Path.{ap}
 use mathlib.Core.List.{[]}
 use borrow.Author.Needs.{needs}
 use Rattle.record.specs.Apart.{outgoingOf, keysWith}
-use Rattle.keying.proofs.Due.{clock-stands}
+use Rattle.keying.proofs.Due.{countdown-stands}
 use Rattle.keying.proofs.repeating.tick.Statement.{statement}
 use Rattle.keying.proofs.repeating.tick.Tie as tie
 
 returns : tie.Need-returns
-returns c = ap outgoingOf (clock-stands (keysWith [] (c .before .before .args .o)) (c .if1 .taken))
+returns c = ap outgoingOf (countdown-stands (keysWith [] (c .before .before .args .o)) (c .if1 .taken))
 
 sub-e : tie.Need-sub-e
 sub-e c = search needs

@@ -1,9 +1,9 @@
--- `codes::strokes::code_in` meets its contract: the set picks the column of the row. Assumes nothing.
+-- `codes::rows::code_in` meets its contract: the set picks the column of the row. Assumes nothing.
 use borrow.Author.Tests.{ne-eqb}
 use Rattle.keys.specs.Keys.{codeIn}
 use borrow.Author.Needs.{needs}
-use Rattle.codes.proofs.strokes.code_in.Statement.{statement}
-use Rattle.codes.proofs.strokes.code_in.Tie as tie
+use Rattle.codes.proofs.rows.code_in.Statement.{statement}
+use Rattle.codes.proofs.rows.code_in.Tie as tie
 
 row-in-requires : tie.Need-row-in-requires
 row-in-requires c κs = search needs

@@ -1,8 +1,8 @@
--- `codes::strokes::sends_release` meets its contract: each return is the case that the tests so far leave. Assumes nothing.
+-- `codes::rows::sends_release` meets its contract: each return is the case that the tests so far leave. Assumes nothing.
 use borrow.Author.Tests.{ne-eqb}
 use Rattle.codes.specs.Codes.{sendsRelease}
-use Rattle.codes.proofs.strokes.sends_release.Statement.{statement}
-use Rattle.codes.proofs.strokes.sends_release.Tie as tie
+use Rattle.codes.proofs.rows.sends_release.Statement.{statement}
+use Rattle.codes.proofs.rows.sends_release.Tie as tie
 
 returns : tie.Need-returns
 unfolding sendsRelease

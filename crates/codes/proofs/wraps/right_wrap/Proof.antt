@@ -1,7 +1,7 @@
--- `codes::strokes::right_wrap` meets its contract: set 1 has one code, the others another. Assumes nothing.
+-- `codes::wraps::right_wrap` meets its contract: set 1 has one code, the others another. Assumes nothing.
 use borrow.Author.Tests.{ne-eqb}
-use Rattle.codes.proofs.strokes.right_wrap.Statement.{statement}
-use Rattle.codes.proofs.strokes.right_wrap.Tie as tie
+use Rattle.codes.proofs.wraps.right_wrap.Statement.{statement}
+use Rattle.codes.proofs.wraps.right_wrap.Tie as tie
 
 returns : tie.Need-returns
 returns c = rw (c .if1 .taken)

@@ -1,12 +1,12 @@
--- `codes::strokes::with_before` meets its contract: in each form the wraps are those of the definition, in its order. Assumes nothing.
+-- `codes::wraps::with_before` meets its contract: in each form the wraps are those of the definition, in its order. Assumes nothing.
 use native.Mathlib.Omega.{arith}
 use Rattle.codes.specs.Codes.{before}
 use Rattle.codes.specs.Sequences.{adding}
 use Rattle.codes.proofs.Adding.{joined, room}
 use Rattle.codes.proofs.Lengths.{break-short}
 use borrow.Author.Needs.{needs}
-use Rattle.codes.proofs.strokes.with_before.Statement.{statement}
-use Rattle.codes.proofs.strokes.with_before.Tie as tie
+use Rattle.codes.proofs.wraps.with_before.Statement.{statement}
+use Rattle.codes.proofs.wraps.with_before.Tie as tie
 
 left-wrap-requires : tie.Need-left-wrap-requires
 left-wrap-requires c κs = search needs

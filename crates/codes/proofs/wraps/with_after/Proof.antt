@@ -1,12 +1,12 @@
--- `codes::strokes::with_after` meets its contract: in each form the wraps are those of the definition, in its order. Assumes nothing.
+-- `codes::wraps::with_after` meets its contract: in each form the wraps are those of the definition, in its order. Assumes nothing.
 use native.Mathlib.Omega.{arith}
 use Rattle.codes.specs.Codes.{after}
 use Rattle.codes.specs.Sequences.{adding}
 use Rattle.codes.proofs.Adding.{joined, room}
 use Rattle.codes.proofs.Lengths.{make-short}
 use borrow.Author.Needs.{needs}
-use Rattle.codes.proofs.strokes.with_after.Statement.{statement}
-use Rattle.codes.proofs.strokes.with_after.Tie as tie
+use Rattle.codes.proofs.wraps.with_after.Statement.{statement}
+use Rattle.codes.proofs.wraps.with_after.Tie as tie
 
 left-wrap-requires : tie.Need-left-wrap-requires
 left-wrap-requires c κs = search needs

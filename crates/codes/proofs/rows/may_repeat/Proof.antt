@@ -1,8 +1,8 @@
--- `codes::strokes::may_repeat` meets its contract: each return is the case that the tests so far leave. Assumes nothing.
+-- `codes::rows::may_repeat` meets its contract: each return is the case that the tests so far leave. Assumes nothing.
 use borrow.Author.Tests.{ne-eqb}
 use Rattle.codes.specs.Codes.{mayRepeat}
-use Rattle.codes.proofs.strokes.may_repeat.Statement.{statement}
-use Rattle.codes.proofs.strokes.may_repeat.Tie as tie
+use Rattle.codes.proofs.rows.may_repeat.Statement.{statement}
+use Rattle.codes.proofs.rows.may_repeat.Tie as tie
 
 returns : tie.Need-returns
 unfolding mayRepeat

@@ -1,7 +1,7 @@
--- `codes::strokes::left_wrap` meets its contract: set 1 has one code, the others another. Assumes nothing.
+-- `codes::wraps::left_wrap` meets its contract: set 1 has one code, the others another. Assumes nothing.
 use borrow.Author.Tests.{ne-eqb}
-use Rattle.codes.proofs.strokes.left_wrap.Statement.{statement}
-use Rattle.codes.proofs.strokes.left_wrap.Tie as tie
+use Rattle.codes.proofs.wraps.left_wrap.Statement.{statement}
+use Rattle.codes.proofs.wraps.left_wrap.Tie as tie
 
 returns : tie.Need-returns
 returns c = rw (c .if1 .taken)
