@@ -1,12 +1,12 @@
 // The dock's entry points (docs/RULES.md): the four calls, each for any record at all. A record out of its range is refused before all
 // else (section 9), and a refused call gives the record back as it was. A caller that knows its record to be in range has the calls in
-// place, in `panel` and `wire`.
+// place, in `scan`, `swap` and `wire`.
 use dock::Answer;
 use dock::Answered;
 use dock::Given;
 use dock::Taken;
-use panel::scan::scan_in_place;
-use panel::swap::swap_in_place;
+use scan::scan_in_place;
+use swap::swap_in_place;
 use record::Dock;
 use record::apart::dock_with;
 use record::apart::rest_of;

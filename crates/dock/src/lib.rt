@@ -1,5 +1,5 @@
 // The dock (docs/RULES.md): what a call is answered with, and how every accepted call ends. What each call does is said in specs/, and
-// done in place by `panel` and `wire`. `Answered` and `Taken` hold a whole record: with them the definitions say what a call gives, whatever
+// done in place by `scan`, `swap` and `wire`. `Answered` and `Taken` hold a whole record: with them the definitions say what a call gives, whatever
 // record it is given. A refused call leaves it as it was.
 use record::Dock;
 use record::Rest;

@@ -89,7 +89,7 @@ fn scan_line(
     ensures { λ x. ⌜ steppedWith (now (map .entry)) (now (closed .exit)) (now (counts .exit)) (now (held .exit)) (now (types .entry)) x ≡ steppedBy (scanOf (dockWith (now (map .entry)) (now (closed .entry)) (now (counts .entry)) (now (held .entry)) (now (types .entry)) r) (bytesFrom (now (line .entry)) 0 18)) ⌝ }
 {
     let scan = text::digits::scan_in(line);
-    let x = panel::scan::scan_in_place(map, closed, counts, held, types, r, &scan);
+    let x = scan::scan_in_place(map, closed, counts, held, types, r, &scan);
     let rest = x.rest;
     let answer = x.answer;
     SteppedRest {
@@ -148,7 +148,7 @@ fn map_line(
     ensures { λ x. ⌜ steppedWith (now (map .exit)) (now (closed .exit)) (now (counts .exit)) (now (held .exit)) (now (types .entry)) x ≡ steppedBy (swapOf (dockWith (now (map .entry)) (now (closed .entry)) (now (counts .entry)) (now (held .entry)) (now (types .entry)) r) (bytesFrom (now (line .entry)) 0 144)) ⌝ }
 {
     let new = text::digits::map_in(line);
-    let x = panel::swap::swap_in_place(map, closed, counts, held, types, r, &new);
+    let x = swap::swap_in_place(map, closed, counts, held, types, r, &new);
     let rest = x.rest;
     let answer = x.answer;
     SteppedRest {

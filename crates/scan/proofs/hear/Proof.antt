@@ -1,0 +1,43 @@
+-- `scan::hear` meets its contract: the repeat follows the changes, and they the tick. Assumes nothing.
+use mathlib.Core.Path.{ap, _∙_}
+use borrow.Author.Needs.{needs}
+use Rattle.record.specs.declared.Keys.{Keys}
+use Rattle.record.specs.Apart.{keysWith, dockWith}
+use Rattle.record.specs.Parts.{withKeys}
+use Rattle.dock.specs.Scan.{changed}
+use Rattle.dock.proofs.InRange.{rest-in-range, ticked-in-range, changed-leaves-range}
+use Rattle.dock.proofs.Scanning.{heard-whole}
+use Rattle.scan.proofs.hear.Statement.{statement}
+use Rattle.scan.proofs.hear.Tie as tie
+
+tick-requires : tie.Need-tick-requires
+tick-requires c κs = search needs
+
+change-requires : tie.Need-change-requires
+change-requires c κs =
+    let tick = c .before .before .before in
+    let s = tick .before .before .before in
+    let a = s .args in
+    (ticked-in-range (dockWith (a .map .now) (a .closed .now) (a .counts .now) (a .held .now) (a .types .now) (a .r)) (s .pre .0) _ (ap (keysWith (a .held .now)) (tick .tick .ensures)), s .pre .1, s .pre .2, s .pre .3)
+
+repeat-requires : tie.Need-repeat-requires
+repeat-requires c κs =
+    let after = c .before .change in
+    let tick = c .before .before .before .before .before in
+    let s = tick .before .before .before in
+    let a = s .args in
+    rest-in-range (a .map .now) (after .last .1 .0) (after .last .1 .1 .0) (after .last .1 .1 .1 .0) (a .types .now) (after .result)
+    (changed-leaves-range (dockWith (a .map .now) (a .closed .now) (a .counts .now) (a .held .now) (a .types .now) (a .r)) (s .pre .0) _ (ap (keysWith (a .held .now)) (tick .tick .ensures)) (a .scan .now) _ (after .ensures))
+
+returns : tie.Need-returns
+returns c =
+    let after = c .before .before .change in
+    let tick = c .before .before .before .before .before .before in
+    let a = tick .before .before .before .args in
+    let d = dockWith (a .map .now) (a .closed .now) (a .counts .now) (a .held .now) (a .types .now) (a .r) in
+    heard-whole d (a .scan .now) _ _
+    (after .ensures ∙ ap (λ (k : Keys). changed (withKeys d k) (a .scan .now)) (ap (keysWith (a .held .now)) (tick .tick .ensures)))
+    (c .repeat .ensures (a .map .now) (after .last .1 .0) (after .last .1 .1 .0))
+
+pub hear-spec : {M : Type 1} → statement M
+hear-spec = tie.close (tie.spec tick-requires change-requires repeat-requires returns)

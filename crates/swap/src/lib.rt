@@ -1,0 +1,80 @@
+// Another panel, in place (docs/RULES.md, section 8): the record is in its range, its arrays are lent, and only the rest is passed.
+use contacts::Columns;
+use contacts::Counts;
+use dock::Answer;
+use dock::AnsweredRest;
+use dock::closing::go_on;
+use maps::copied;
+use maps::has_double;
+use record::Held;
+use record::Map;
+use record::Rest;
+use record::Types;
+ghost use mathlib.Core.Path.{_≡_};
+ghost use mathlib.Core.Bool.{true};
+ghost use mathlib.Core.List.{List};
+ghost use Prim.Native.Nat.{ℕ};
+ghost use Rattle.record.specs.Apart.{dockWith};
+ghost use Rattle.record.specs.Range.{inRange};
+ghost use Rattle.dock.specs.Answers.{answeredWith};
+ghost use Rattle.dock.specs.Swap.{remapped, swapOf};
+
+// The first swap drops contact history and the repeating key, and a handover opens. While one is open nothing but the map is replaced.
+fn open_handover(closed: &mut Columns, counts: &mut Counts, r: Rest) -> Rest
+    ensures { λ e. ⌜ ((map held types new : List ℕ) → dockWith new (now (closed .exit)) (now (counts .exit)) held types e ≡ remapped (dockWith map (now (closed .entry)) (now (counts .entry)) held types r) new) ⌝ }
+{
+    if r.handover {
+        return r;
+    }
+    let no_columns = [0; 18];
+    let no_counts = [0; 144];
+    *closed = no_columns;
+    *counts = no_counts;
+    let mut o = r.outgoing;
+    o.repeating = 0;
+    o.countdown = 0;
+    let mut e = r;
+    e.outgoing = o;
+    e.handover = true;
+    e
+}
+
+// The swap call in place, of a record in its range.
+pub fn swap_in_place(
+    map: &mut Map,
+    closed: &mut Columns,
+    counts: &mut Counts,
+    held: &mut Held,
+    types: &Types,
+    r: Rest,
+    new: &[u8],
+) -> AnsweredRest
+    requires { ⌜ inRange (dockWith (now map) (now closed) (now counts) (now held) (now types) r) ≡ true ⌝ }
+    ensures { λ x. ⌜ answeredWith (now (map .exit)) (now (closed .exit)) (now (counts .exit)) (now (held .exit)) (now (types .entry)) x ≡ swapOf (dockWith (now (map .entry)) (now (closed .entry)) (now (counts .entry)) (now (held .entry)) (now (types .entry)) r) (now (new .entry)) ⌝ }
+{
+    if new.len() != 144 {
+        return AnsweredRest {
+            answer: Answer::MapLength,
+            rest: r,
+        };
+    }
+    let m = copied(new);
+    if !record::range::all_up_to(keys::LAST_KEY, &m) {
+        return AnsweredRest {
+            answer: Answer::MapEntry,
+            rest: r,
+        };
+    }
+    if has_double(&m) {
+        return AnsweredRest {
+            answer: Answer::MapDouble,
+            rest: r,
+        };
+    }
+    *map = m;
+    let e = open_handover(closed, counts, r);
+    AnsweredRest {
+        answer: Answer::Accepted,
+        rest: go_on(held, types, e),
+    }
+}
