@@ -7,7 +7,7 @@ ghost use Rattle.codes.specs.Codes.{prefix, makeOf, breakOf};
 ghost use Rattle.codes.specs.Sequences.{holding, adding};
 
 // No bytes yet.
-pub(crate) fn empty() -> Sequence
+pub fn empty() -> Sequence
     ensures { λ r. ⌜ r ≡ holding [] ⌝ }
 {
     Sequence {
@@ -40,7 +40,7 @@ fn with_prefix(s: Sequence, code: u16) -> Sequence
 }
 
 // What a code sends when its key goes down.
-pub(crate) fn with_make(s: Sequence, code: u16) -> Sequence
+pub fn with_make(s: Sequence, code: u16) -> Sequence
     requires { ⌜ s .length ≤ 6 ⌝ }
     ensures { λ r. ⌜ r ≡ adding s (makeOf code) ⌝ }
 {
@@ -49,7 +49,7 @@ pub(crate) fn with_make(s: Sequence, code: u16) -> Sequence
 }
 
 // What a code sends when its key comes up.
-pub(crate) fn with_break(s: Sequence, set: u8, code: u16) -> Sequence
+pub fn with_break(s: Sequence, set: u8, code: u16) -> Sequence
     requires { ⌜ s .length ≤ 5 ⌝ }
     ensures { λ r. ⌜ r ≡ adding s (breakOf set code) ⌝ }
 {

@@ -1,10 +1,7 @@
 // The codes of keys (docs/RULES.md, section 3): the bytes that a press, a release or a repeat of a key sends.
-mod bytes; // bytes.rt: bytes put one after another
+pub mod bytes; // bytes.rt: bytes put one after another
 pub mod rows; // rows.rt: what a key's row and its type say
-pub mod forms; // forms.rt: which form a key takes
-mod wraps; // wraps.rt: what a wrapping sends around a key
 pub mod plain; // plain.rt: the bytes of an action of a key with one form
-pub mod strokes; // strokes.rt: the bytes of an action
 
 // The keys that do not follow the table alone: the ten cursor keys, and three more.
 pub const FIRST_CURSOR: u8 = 59;

@@ -6,7 +6,7 @@ ghost use Rattle.keys.specs.Keys.{laidOut, codeIn};
 ghost use Rattle.codes.specs.Codes.{sendsRelease, mayRepeat};
 
 // The code of a key by the table: the one place where an action looks into it.
-pub(crate) fn code_in(table: &Table, set: u8, key: u8) -> u16
+pub fn code_in(table: &Table, set: u8, key: u8) -> u16
     requires { ⌜ now table ≡ laidOut ⌝ }
     ensures { λ r. ⌜ r ≡ codeIn set key ⌝ }
 {
@@ -21,7 +21,7 @@ pub(crate) fn code_in(table: &Table, set: u8, key: u8) -> u16
 }
 
 // A release is sent.
-pub(crate) fn sends_release(set: u8, kind: u8) -> bool
+pub fn sends_release(set: u8, kind: u8) -> bool
     ensures { λ r. ⌜ r ≡ sendsRelease set kind ⌝ }
 {
     if set != 3 {

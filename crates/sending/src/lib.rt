@@ -57,7 +57,7 @@ fn num_lock(indicators: u8) -> bool
 pub fn bytes_of(held: &Held, m: Mode, kind: u8, key: u8, action: Action) -> Sequence
     ensures { λ r. ⌜ r ≡ holding (sendsWith (now (held .entry)) m kind key action) ⌝ }
 {
-    codes::strokes::sequence_of(
+    strokes::sequence_of(
         m.set,
         key,
         action,
@@ -72,10 +72,10 @@ fn bytes_in(held: &Held, table: &Table, m: Mode, kind: u8, key: u8, action: Acti
     requires { ⌜ now table ≡ laidOut ⌝ }
     ensures { λ r. ⌜ r ≡ holding (sendsWith (now (held .entry)) m kind key action) ⌝ }
 {
-    if !codes::forms::has_forms(m.set, key) {
+    if !forms::has_forms(m.set, key) {
         return codes::plain::plain_sequence(table, m.set, key, action, kind);
     }
-    codes::strokes::sequence_in(
+    strokes::sequence_in(
         table,
         m.set,
         key,

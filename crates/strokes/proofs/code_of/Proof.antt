@@ -1,0 +1,27 @@
+-- `strokes::code_of` meets its contract: the other form has its own code in each set, any other the one of the table. Assumes nothing.
+use borrow.Author.Tests.{ne-eqb}
+use Rattle.codes.specs.Codes.{codeOf}
+use borrow.Author.Needs.{needs}
+use Rattle.strokes.proofs.code_of.Statement.{statement}
+use Rattle.strokes.proofs.code_of.Tie as tie
+
+is-other-print-requires : tie.Need-is-other-print-requires
+is-other-print-requires c κs = search needs
+
+returns : tie.Need-returns
+unfolding codeOf
+returns c = rw (← c .before .before .is-other-print .ensures, c .before .if1 .taken, c .if2 .taken)
+
+returns-2 : tie.Need-returns-2
+unfolding codeOf
+returns-2 c = rw (← c .before .before .is-other-print .ensures, c .before .if1 .taken, ne-eqb _ _ (c .if2 .left))
+
+code-in-requires : tie.Need-code-in-requires
+code-in-requires c κs = search needs
+
+returns-3 : tie.Need-returns-3
+unfolding codeOf
+returns-3 c = rw (← c .before .before .is-other-print .ensures, c .before .if1 .left) (c .code-in .ensures)
+
+pub code-of-spec : {M : Type 1} → statement M
+code-of-spec = tie.close (tie.spec is-other-print-requires returns returns-2 code-in-requires returns-3)

@@ -1,0 +1,30 @@
+-- `strokes::press` meets its contract: PAUSE is written out, any other key sends its make, wrapped by its form. Assumes nothing.
+use mathlib.Core.Path.{sym, _∙_}
+use Rattle.codes.specs.Codes.{bytesOf}
+use Rattle.codes.proofs.AtOnce.{at-once-range}
+use borrow.Author.Needs.{needs}
+use Rattle.strokes.proofs.press.Statement.{statement}
+use Rattle.strokes.proofs.press.Tie as tie
+
+pauses-at-once-requires : tie.Need-pauses-at-once-requires
+pauses-at-once-requires c κs = search needs
+
+pause-requires : tie.Need-pause-requires
+pause-requires c κs =
+    let a = c .before .before .args in
+    at-once-range (a .set) (a .key) (sym (c .before .pauses-at-once .ensures) ∙ c .if1 .taken)
+
+returns : tie.Need-returns
+unfolding bytesOf
+returns c = λ kind. rw (← c .before .before .pauses-at-once .ensures, c .before .if1 .taken) (c .pause .ensures)
+
+made-requires : tie.Need-made-requires
+made-requires c κs = search needs
+
+returns-2 : tie.Need-returns-2
+unfolding bytesOf
+returns-2 c = λ kind. rw (← c .before .before .pauses-at-once .ensures, c .before .if1 .left) (c .made .ensures)
+
+pub press-spec : {M : Type 1} → statement M
+press-spec =
+    tie.close (tie.spec pauses-at-once-requires pause-requires returns made-requires returns-2)

@@ -1,0 +1,53 @@
+-- `strokes::sequence_in` meets its contract: each action in the form that the key takes. Assumes nothing.
+use Rattle.codes.specs.Codes.{encode}
+use borrow.Author.Needs.{needs}
+use Rattle.strokes.proofs.sequence_in.Statement.{statement}
+use Rattle.strokes.proofs.sequence_in.Tie as tie
+
+form-of-requires : tie.Need-form-of-requires
+form-of-requires c κs = search needs
+
+enum-told : tie.Need-enum-told
+enum-told c = search needs
+
+press-requires : tie.Need-press-requires
+press-requires c κs = search needs
+
+enum-told-2 : tie.Need-enum-told-2
+enum-told-2 c = search needs
+
+release-requires : tie.Need-release-requires
+release-requires c κs = search needs
+
+enum-told-3 : tie.Need-enum-told-3
+enum-told-3 c = search needs
+
+repeat-requires : tie.Need-repeat-requires
+repeat-requires c κs = search needs
+
+returns : tie.Need-returns
+unfolding encode
+returns c = rw (c .before .enum-told .given .1, ← c .before .before .before .form-of .ensures) (c .press .ensures _)
+
+returns-2 : tie.Need-returns-2
+unfolding encode
+returns-2 c = rw (c .before .enum-told2 .given .1, ← c .before .before .before .form-of .ensures) (c .release .ensures)
+
+returns-3 : tie.Need-returns-3
+unfolding encode
+returns-3 c = rw (c .before .enum-told3 .given .1, ← c .before .before .before .form-of .ensures) (c .repeat .ensures)
+
+pub sequence-in-spec : {M : Type 1} → statement M
+sequence-in-spec =
+    tie.close
+    (tie.spec
+    form-of-requires
+    enum-told
+    press-requires
+    enum-told-2
+    release-requires
+    enum-told-3
+    repeat-requires
+    returns
+    returns-2
+    returns-3)

@@ -1,0 +1,64 @@
+// What a wrapping sends around a key: SHIFTs that seem to come up or go down.
+use codes::Form;
+use codes::Sequence;
+use codes::bytes::with_break;
+use codes::bytes::with_make;
+ghost use mathlib.Core.Path.{_≡_};
+ghost use Prim.Native.Nat.{_≤_};
+ghost use Rattle.keys.specs.Keys.{leftWrap, rightWrap};
+ghost use Rattle.codes.specs.Codes.{before, after};
+ghost use Rattle.codes.specs.Sequences.{adding};
+
+// The code of SHIFT_L behind E0.
+fn left_wrap(set: u8) -> u16
+    ensures { λ r. ⌜ r ≡ leftWrap set ⌝ }
+{
+    if set == 1 { 0xe02a } else { 0xe012 }
+}
+
+// The code of SHIFT_R behind E0.
+fn right_wrap(set: u8) -> u16
+    ensures { λ r. ⌜ r ≡ rightWrap set ⌝ }
+{
+    if set == 1 { 0xe036 } else { 0xe059 }
+}
+
+// What a form sends before a make.
+pub(crate) fn with_before(s: Sequence, set: u8, form: Form) -> Sequence
+    requires { ⌜ s .length ≤ 2 ⌝ }
+    ensures { λ r. ⌜ r ≡ adding s (before set form) ⌝ }
+{
+    let left = left_wrap(set);
+    let right = right_wrap(set);
+    match form {
+        Form::Plain => s,
+        Form::ShiftLeft => with_break(s, set, left),
+        Form::ShiftRight => with_break(s, set, right),
+        Form::ShiftBoth => {
+            let first = with_break(s, set, left);
+            with_break(first, set, right)
+        }
+        Form::NumLock => with_make(s, left),
+        Form::Other => s,
+    }
+}
+
+// What a form sends after a break.
+pub(crate) fn with_after(s: Sequence, set: u8, form: Form) -> Sequence
+    requires { ⌜ s .length ≤ 4 ⌝ }
+    ensures { λ r. ⌜ r ≡ adding s (after set form) ⌝ }
+{
+    let left = left_wrap(set);
+    let right = right_wrap(set);
+    match form {
+        Form::Plain => s,
+        Form::ShiftLeft => with_make(s, left),
+        Form::ShiftRight => with_make(s, right),
+        Form::ShiftBoth => {
+            let first = with_make(s, right);
+            with_make(first, left)
+        }
+        Form::NumLock => with_break(s, set, left),
+        Form::Other => s,
+    }
+}
