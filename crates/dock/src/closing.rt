@@ -13,7 +13,7 @@ pub fn go_on(held: &mut Held, types: &Types, r: Rest) -> Rest
 {
     let o = r.outgoing;
     let m = r.mode;
-    let p = keying::handover::hand_over(held, o, m, types);
+    let p = handover::hand_over(held, o, m, types);
     let left = p.outgoing;
     let mut e = r;
     e.outgoing = left;

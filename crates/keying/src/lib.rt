@@ -2,9 +2,7 @@
 use record::Keys;
 use record::Outgoing;
 
-pub mod moves; // moves.rt: a key goes down or comes up
 pub mod repeating; // repeating.rt: the key that repeats
-pub mod handover; // handover.rt: the keys of a panel that was taken away
 
 // The keys after a handover went on, and whether it is still open. Definitions speak of it; the code gives the next.
 pub struct Handed {

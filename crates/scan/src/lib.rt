@@ -43,7 +43,7 @@ fn count(
     contacts::history::count(closed, counts, scan);
     let o = r.outgoing;
     let m = r.mode;
-    let turned = keying::moves::turns(held, o, m, types, map, &was, closed);
+    let turned = moves::turns(held, o, m, types, map, &was, closed);
     let mut e = r;
     e.outgoing = turned;
     e

@@ -1,6 +1,8 @@
 // The bytes of an action of any key (docs/RULES.md, section 3).
 mod wraps; // wraps.rt: what a wrapping sends around a key
 
+use crate::wraps::with_after;
+use crate::wraps::with_before;
 use codes::Action;
 use codes::Form;
 use codes::PAUSE;
@@ -9,12 +11,10 @@ use codes::Sequence;
 use codes::bytes::empty;
 use codes::bytes::with_break;
 use codes::bytes::with_make;
-use forms::form_of;
 use codes::rows::code_in;
 use codes::rows::may_repeat;
 use codes::rows::sends_release;
-use crate::wraps::with_after;
-use crate::wraps::with_before;
+use forms::form_of;
 use keys::Table;
 ghost use mathlib.Core.Path.{_≡_};
 ghost use mathlib.Core.List.{_++_};

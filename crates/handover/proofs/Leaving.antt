@@ -1,0 +1,90 @@
+-- A handover, key after key: what is left of it is the same handover from the next key on. Assumes nothing.
+use mathlib.Core.Path.{_≡_, refl, sym, ap, _∙_}
+use mathlib.Core.Bool.{Bool, true, false}
+use mathlib.Core.List.{List}
+use Prim.Native.Nat.{ℕ, suc, _+_, _-_, _≤_, _<_}
+use native.Mathlib.Numerals.{add-one}
+use native.Mathlib.Omega.{arith}
+use borrow.Author.Tests.{eq-eqb, ne-eqb}
+use lib.ListN.{getD, length}
+use Rattle.keys.specs.Keys.{lastKey}
+use Rattle.codes.specs.declared.Action.the-variants.{Release}
+use Rattle.codes.specs.declared.Sequence.{Sequence}
+use Rattle.codes.specs.Sequences.{holding}
+use Rattle.queue.specs.Queues.{waiting, contents, hasRoom}
+use Rattle.record.specs.declared.Mode.{Mode}
+use Rattle.record.specs.declared.Keys.{Keys}
+use Rattle.record.specs.Range.{goodKeys}
+use Rattle.sending.specs.Sending.{sends}
+use Rattle.sending.proofs.Sent.{sequence-length}
+use Rattle.keying.specs.declared.Handed.{Handed}
+use Rattle.keying.specs.Moves.{releasedWith, released}
+use Rattle.keying.specs.Handover.{canLeave, handedFrom, handedOver}
+use Rattle.keying.proofs.Good.{released-good}
+use Rattle.keying.proofs.Changes.{released-by-its-bytes}
+
+abbrev pub handed : Keys → Bool → Handed
+handed k unfinished = record { keys = k; unfinished = unfinished }
+
+-- One key: it is not held, or its release fits, or it has to wait.
+module _ (m : Mode) (types : List ℕ) (n key : ℕ) (k : Keys) where
+  key-passed : getD (k .held) key 0 ≡ 0 → handedFrom (suc n) key k m types ≡ handedFrom n (suc key) k m types
+  unfolding handedFrom
+  key-passed z = rw (eq-eqb (getD (k .held) key 0) 0 z)
+
+  module _ (h : getD (k .held) key 0 ≡ 0 → ⊥) where
+    key-leaves : canLeave k m types key ≡ true
+        → handedFrom (suc n) key k m types ≡ handedFrom n (suc key) (released k m (getD types key 0) key) m types
+    unfolding handedFrom
+    key-leaves t = simp (ne-eqb (getD (k .held) key 0) 0 h, t)
+
+    key-waits : canLeave k m types key ≡ false → handedFrom (suc n) key k m types ≡ handed k true
+    unfolding handedFrom
+    key-waits f = simp (ne-eqb (getD (k .held) key 0) 0 h, f)
+
+module _ (m : Mode) (types : List ℕ) (all : Keys) where
+  -- The keys below `key` are done with, and those from it on are still to come.
+  pub record Going (key : ℕ) (k : Keys) : Type 0 where
+    pub good : goodKeys k ≡ true
+    pub rest : handedFrom (suc lastKey - key) key k m types ≡ handedOver all m types
+
+  pub begins : goodKeys all ≡ true → Going 1 all
+  begins g = record { good = g; rest = refl }
+
+  module _ (key : ℕ) (k : Keys) (going : Going key k) where
+    pub ends : lastKey < key → key ≤ suc lastKey → handed k false ≡ handedOver all m types
+    unfolding handedFrom
+    ends a b =
+        let none : suc lastKey - key ≡ 0 = omega arith in
+        rw none at (going .rest)
+
+    module _ (h : key ≤ lastKey) where
+      here : handedFrom (suc (lastKey - key)) key k m types ≡ handedOver all m types
+      here =
+          let more : suc lastKey - key ≡ suc (lastKey - key) = omega arith in
+          rw more at (going .rest)
+
+      next : (e : Keys) → handedFrom (suc (lastKey - key)) key k m types ≡ handedFrom (lastKey - key) (suc key) e m types
+          → handedFrom (suc lastKey - (key + 1)) (key + 1) e m types ≡ handedOver all m types
+      next e step =
+          let less : suc lastKey - (key + 1) ≡ lastKey - key = omega arith in
+          rw (less, add-one) (sym step ∙ here)
+
+      pub passes : (e : Keys) → getD (k .held) key 0 ≡ 0 → e ≡ k → Going (key + 1) e
+      passes e z f = rw f (record { good = going .good; rest = next k (key-passed m types (lastKey - key) key k z) })
+
+      module _ (n : getD (k .held) key 0 ≡ 0 → ⊥) (s : Sequence) (b : Bool)
+          (i : s ≡ holding (sends k m (getD types key 0) key Release)) (j : b ≡ hasRoom (waiting (k .queue)) (s .length)) where
+        can : b ≡ canLeave k m types key
+        can = j ∙ ap (hasRoom (waiting (k .queue))) (sequence-length k m (getD types key 0) key Release s i)
+
+        pub waits : b ≡ false → handed k true ≡ handedOver all m types
+        waits f = sym (key-waits m types (lastKey - key) key k n (sym can ∙ f)) ∙ here
+
+        pub leaves : b ≡ true → (e : Keys) → e ≡ releasedWith k m key (contents s) → Going (key + 1) e
+        leaves t e f =
+            rw (f, released-by-its-bytes k m (getD types key 0) key s i)
+            (record {
+              good = released-good m k (getD types key 0) key (going .good);
+              rest = next (released k m (getD types key 0) key) (key-leaves m types (lastKey - key) key k n (sym can ∙ t));
+            })

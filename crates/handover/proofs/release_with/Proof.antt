@@ -1,0 +1,26 @@
+-- `handover::release_with` meets its contract: the bytes are queued, and the key is let go. Assumes nothing.
+use mathlib.Core.Path.{ap, _∙_}
+use borrow.Author.Needs.{needs}
+use Rattle.queue.specs.declared.Queue.{Queue}
+use Rattle.record.specs.Apart.{keysWith}
+use Rattle.record.proofs.Ranges.{good-keys-queue}
+use Rattle.keying.specs.Moves.{letGo, releasedWith}
+use Rattle.handover.proofs.release_with.Statement.{statement}
+use Rattle.handover.proofs.release_with.Tie as tie
+
+queued-requires : tie.Need-queued-requires
+queued-requires c κs =
+    let a = c .before .args in
+    (good-keys-queue (keysWith (a .held .now) (a .o)) (c .before .pre .0), c .before .pre .2)
+
+let-go-requires : tie.Need-let-go-requires
+let-go-requires c κs = search needs
+
+returns : tie.Need-returns
+unfolding releasedWith
+returns c =
+    let a = c .before .before .before .before .args in
+    c .let-go .ensures ∙ ap (λ (q : Queue). letGo (keysWith (a .held .now) (a .o)) (a .key) q) (c .before .before .queued .ensures)
+
+pub release-with-spec : {M : Type 1} → statement M
+release-with-spec = tie.close (tie.spec queued-requires let-go-requires returns)

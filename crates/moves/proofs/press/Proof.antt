@@ -1,0 +1,67 @@
+-- `moves::press` meets its contract: the key is the one that repeats, if it may, else none does. Assumes nothing.
+use Prim.Native.Nat.{_≤_}
+use native.Mathlib.Omega.{arith}
+use borrow.Author.Needs.{needs}
+use Rattle.queue.specs.Queues.{queueWith}
+use Rattle.record.proofs.Ranges.{good-mode-rate, good-keys-queue}
+use Rattle.sending.specs.Sending.{sends}
+use Rattle.keying.specs.Moves.{keysTold}
+use Rattle.keying.proofs.Good.{queued-short}
+use Rattle.keying.proofs.Changes.{pressed-repeats, pressed-once}
+use Rattle.moves.proofs.press.Statement.{statement}
+use Rattle.moves.proofs.press.Tie as tie
+
+cast-send-press : tie.Need-cast-send-press
+cast-send-press c = search needs
+
+send-press-requires : tie.Need-send-press-requires
+send-press-requires c κs =
+    let s = c .before .before .before in
+    let a = s .args in
+    (good-keys-queue (keysTold (a .held .now) (a .bytes .now) (a .t)) (s .pre .0), s .pre .2, s .pre .4)
+
+cast-e : tie.Need-cast-e
+cast-e c =
+    let s = c .before .before .before .before in
+    let a = s .args in
+    let k = keysTold (a .held .now) (a .bytes .now) (a .t) in
+    let few : c .send-press .result ≤ 16 = queued-short (queueWith _ (c .send-press .result)) (k .queue) _ _ (c .send-press .ensures) (good-keys-queue k (s .pre .0)) in
+    omega arith
+
+element-write-held : tie.Need-element-write-held
+element-write-held c = search needs
+
+may-repeat-requires : tie.Need-may-repeat-requires
+may-repeat-requires c κs = search needs
+
+delay-of-requires : tie.Need-delay-of-requires
+delay-of-requires c κs = good-mode-rate _ (c .before .before .before .before .before .before .pre .1)
+
+returns : tie.Need-returns
+unfolding sends
+returns c =
+    let m = c .before .before in
+    let a = m .before .before .before .before .before .args in
+    pressed-repeats (keysTold (a .held .now) (a .bytes .now) (a .t)) (a .m) (a .kind) (a .key) _ (m .before .send-press .ensures) _ (m .may-repeat .ensures)
+    (c .before .if1 .taken) _ (c .delay-of .ensures)
+
+returns-2 : tie.Need-returns-2
+unfolding sends
+returns-2 c =
+    let m = c .before in
+    let a = m .before .before .before .before .before .args in
+    pressed-once (keysTold (a .held .now) (a .bytes .now) (a .t)) (a .m) (a .kind) (a .key) _ (m .before .send-press .ensures) _ (m .may-repeat .ensures)
+    (c .if1 .left)
+
+pub press-spec : {M : Type 1} → statement M
+press-spec =
+    tie.close
+    (tie.spec
+    cast-send-press
+    send-press-requires
+    cast-e
+    element-write-held
+    may-repeat-requires
+    delay-of-requires
+    returns
+    returns-2)

@@ -1,0 +1,51 @@
+-- `moves::release` meets its contract: its test is whether the key was the one that repeats. Assumes nothing.
+use Prim.Native.Nat.{_≤_}
+use native.Mathlib.Omega.{arith}
+use borrow.Author.Needs.{needs}
+use Rattle.queue.specs.Queues.{queueWith}
+use Rattle.record.proofs.Ranges.{good-keys-queue}
+use Rattle.sending.specs.Sending.{sends}
+use Rattle.keying.specs.Moves.{keysTold}
+use Rattle.keying.proofs.Good.{queued-short}
+use Rattle.keying.proofs.Changes.{released-repeats, released-only}
+use Rattle.moves.proofs.release.Statement.{statement}
+use Rattle.moves.proofs.release.Tie as tie
+
+cast-send-release : tie.Need-cast-send-release
+cast-send-release c = search needs
+
+send-release-requires : tie.Need-send-release-requires
+send-release-requires c κs =
+    let s = c .before .before .before in
+    let a = s .args in
+    (good-keys-queue (keysTold (a .held .now) (a .bytes .now) (a .t)) (s .pre .0), s .pre .2, s .pre .1, s .pre .4)
+
+cast-e : tie.Need-cast-e
+cast-e c =
+    let s = c .before .before .before .before in
+    let a = s .args in
+    let k = keysTold (a .held .now) (a .bytes .now) (a .t) in
+    let few : c .send-release .result ≤ 16 = queued-short (queueWith _ (c .send-release .result)) (k .queue) _ _ (c .send-release .ensures) (good-keys-queue k (s .pre .0)) in
+    omega arith
+
+element-write-held : tie.Need-element-write-held
+element-write-held c = search needs
+
+returns : tie.Need-returns
+unfolding sends
+returns c =
+    let r = c .before .before in
+    let a = r .before .before .before .before .args in
+    released-repeats (keysTold (a .held .now) (a .bytes .now) (a .t)) (a .m) (a .kind) (a .key) _ (r .send-release .ensures) (c .if1 .taken)
+
+returns-2 : tie.Need-returns-2
+unfolding sends
+returns-2 c =
+    let r = c .before .before in
+    let a = r .before .before .before .before .args in
+    released-only (keysTold (a .held .now) (a .bytes .now) (a .t)) (a .m) (a .kind) (a .key) _ (r .send-release .ensures) (c .if1 .left)
+
+pub release-spec : {M : Type 1} → statement M
+release-spec =
+    tie.close
+    (tie.spec cast-send-release send-release-requires cast-e element-write-held returns returns-2)

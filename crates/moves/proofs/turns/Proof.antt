@@ -1,0 +1,113 @@
+-- `moves::turns` meets its contract. The loop's invariant: c is at most 18, and the positions of the columns below c have been
+-- looked at. The measure is what is left of the columns. Assumes nothing.
+use Prim.Native.Nat.{_+_, _*_, _-_, _≤_}
+use mathlib.Core.Path.{_≡_, ap, _∙_}
+use mathlib.Core.Logic.{⊎-elim}
+use native.Mathlib.Omega.{arith}
+use borrow.Author.Needs.{needs}
+use lib.ListN.{length}
+use Rattle.queue.proofs.Meaning.{tidy-short}
+use Rattle.record.specs.declared.Keys.{Keys}
+use Rattle.record.specs.Apart.{keysWith}
+use Rattle.record.specs.Range.{goodKeys}
+use Rattle.record.proofs.Ranges.{good-keys-queue}
+use Rattle.keying.specs.Moves.{keysTold, turnsTo}
+use Rattle.keying.proofs.Changes.{told-same}
+use Rattle.keying.proofs.Good.{turns-good}
+use Rattle.keying.proofs.Places.{turns-bytes}
+use Rattle.moves.proofs.Rows.{turns-none, column-stays, column-turns, turns-all}
+use Rattle.moves.proofs.turns.Statement.{statement}
+use Rattle.moves.proofs.turns.Tie as tie
+
+abbrev Inv-loop : tie.InvT-loop
+Inv-loop held₀ m types map was is table bytes₀ e₀ c₀ held bytes e c =
+    (c ≤ 18) × (length bytes₀ ≡ 16) × (keysTold held bytes e ≡ turnsTo (8 * c) m types map was is (keysTold held₀ bytes₀ e₀))
+
+abbrev μ-loop : tie.MeasureT-loop
+μ-loop held₀ m types map was is table bytes₀ e₀ c₀ held bytes e c = 18 - c
+
+table-requires : tie.Need-table-requires Inv-loop μ-loop
+table-requires c κs = search needs
+
+cast-t14 : tie.Need-cast-t14 Inv-loop μ-loop
+cast-t14 c =
+    let s = c .before .before .before .before in
+    omega (arith, tidy-short _ (good-keys-queue (keysWith (s .args .held .now) (s .args .o)) (s .pre .0)))
+
+loop-holds : tie.Need-loop-holds Inv-loop μ-loop
+loop-holds c =
+    let places : length (c .before .before .before .before .args .o .queue .bytes) ≡ 16 = search needs in
+    (omega arith, places, turns-none _ _ _ _ _ _)
+
+element-copy-out-if1 : tie.Need-element-copy-out-if1 Inv-loop μ-loop
+element-copy-out-if1 c = omega arith
+
+element-copy-out-if1-2 : tie.Need-element-copy-out-if1-2 Inv-loop μ-loop
+element-copy-out-if1-2 c = omega arith
+
+element-copy-out-column : tie.Need-element-copy-out-column Inv-loop μ-loop
+element-copy-out-column c = omega arith
+
+element-copy-out-column-2 : tie.Need-element-copy-out-column-2 Inv-loop μ-loop
+element-copy-out-column-2 c = omega arith
+
+column-requires : tie.Need-column-requires Inv-loop μ-loop
+column-requires c κs =
+    let t = c .before .before .before .before .before .before .before .before in
+    let l = t .before in
+    let s = l .before .before .before .before .before in
+    let p = s .pre in
+    let a = s .args in
+    let k = keysWith (a .held .now) (a .o) in
+    let good = ap goodKeys (l .loop .inv .2) ∙ turns-good (a .m) (p .1) (a .types .now) (a .map .now) (p .2) _ (a .was .now) (a .is .now) k (p .0) in
+    let kept = ap (λ (x : Keys). length (x .queue .bytes)) (l .loop .inv .2)
+    ∙ turns-bytes (a .m) (a .types .now) (a .map .now) (p .2) _ (a .was .now) (a .is .now) k (l .loop .inv .1) in
+    (good, p .1, kept, t .loop-test .taken, p .2, l .before .before .before .before .table .ensures)
+
+add-c : tie.Need-add-c Inv-loop μ-loop
+add-c c = omega arith
+
+loop-less : tie.Need-loop-less Inv-loop μ-loop
+loop-less c = omega arith
+
+loop-again : tie.Need-loop-again Inv-loop μ-loop
+loop-again c =
+    let l = c .before .before .before .before in
+    let a = l .before .before .before .before .before .args in
+    let i = l .loop .inv .2 in
+    let k = keysWith (a .held .now) (a .o) in
+    let e = keysTold (l .loop .held) (l .loop .bytes) (l .loop .e) in
+    let again : keysTold (c .if1 .held) (c .if1 .bytes) (c .if1 .e) ≡ turnsTo (8 * (l .loop .c + 1)) (a .m) (a .types .now) (a .map .now) (a .was .now) (a .is .now) k = ⊎-elim
+    (λ w. column-turns _ _ _ _ _ k (l .loop .c) e i _ (told-same _ _ _ _ _ _ (w .7) (w .8) (w .9) ∙ w .6 .ensures))
+    (λ w. column-stays _ _ _ _ _ k (l .loop .c) e i _ (w .0 .left) (told-same _ _ _ _ _ _ (w .1) (w .2) (w .3)))
+    (c .if1 .came) in
+    (omega arith, l .loop .inv .1, again)
+
+cast-t32 : tie.Need-cast-t32 Inv-loop μ-loop
+cast-t32 c = search needs
+
+returns : tie.Need-returns Inv-loop μ-loop
+returns c =
+    let l = c .before .before .loop in
+    let a = c .before .before .before .before .before .before .before .args in
+    turns-all _ _ _ _ _ (keysWith (a .held .now) (a .o)) _ (keysTold (l .held) (l .bytes) (l .e)) (l .inv .2) (l .inv .0) (c .before .loop-test .left)
+
+pub turns-spec : {M : Type 1} → statement M
+turns-spec =
+    tie.close
+    (tie.spec
+    Inv-loop
+    μ-loop
+    table-requires
+    cast-t14
+    loop-holds
+    element-copy-out-if1
+    element-copy-out-if1-2
+    element-copy-out-column
+    element-copy-out-column-2
+    column-requires
+    add-c
+    loop-less
+    loop-again
+    cast-t32
+    returns)
