@@ -9,7 +9,7 @@ use lib.ListN.{length, take, drop, length-take, length-drop}
 use Rattle.basics.specs.Lists.{allUpTo}
 use Rattle.basics.proofs.Cases.{picked}
 use Rattle.keys.specs.Keys.{lastKey}
-use Rattle.contacts.specs.Phantom.{isPhantom}
+use Rattle.phantom.specs.Phantom.{isPhantom}
 use Rattle.dock.specs.declared.Answered.{Answered}
 use Rattle.dock.specs.declared.Taken.{Taken}
 use Rattle.dock.specs.Closing.{closing}
@@ -23,11 +23,11 @@ use Rattle.frames.specs.Frames.{unpackedOf}
 use Rattle.host.specs.Commands.{replyTo, commanded, rightValue, tookValue, tookByte}
 use Rattle.host.proofs.InRange.{reply-short}
 use Rattle.maps.specs.Maps.{hasDouble}
-use Rattle.queue.specs.declared.replies.Replies.{Replies}
+use Rattle.replies.specs.declared.Replies.{Replies}
 use Rattle.queue.specs.Queues.{waiting}
-use Rattle.queue.specs.Replies.{waitingReplies, repliesOf}
+use Rattle.replies.specs.Replies.{waitingReplies, repliesOf}
 use Rattle.queue.proofs.Meaning.{tidy-short, length-waiting}
-use Rattle.queue.proofs.ReplyMeaning.{replies-short, length-waitingReplies, places-repliesOf}
+use Rattle.replies.proofs.ReplyMeaning.{replies-short, length-waitingReplies, places-repliesOf}
 use Rattle.record.specs.declared.Dock.{Dock}
 use Rattle.record.specs.Parts.{withKeys, withReplies, withQueue}
 use Rattle.record.specs.Power.{freshWith, powerOn}

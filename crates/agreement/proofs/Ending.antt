@@ -17,9 +17,9 @@ use Rattle.dock.specs.Scan.{quiet}
 use Rattle.dock.specs.Read.{oldest, behindIt, oldestReply, repliesBehind, remembering, replyTaken, keyByteTaken, read, readOf}
 use Rattle.keying.specs.Handover.{handedOver}
 use Rattle.queue.specs.Queues.{waiting}
-use Rattle.queue.specs.Replies.{waitingReplies}
+use Rattle.replies.specs.Replies.{waitingReplies}
 use Rattle.queue.proofs.Meaning.{waiting-queueOf}
-use Rattle.queue.proofs.ReplyMeaning.{waiting-repliesOf}
+use Rattle.replies.proofs.ReplyMeaning.{waiting-repliesOf}
 use Rattle.record.specs.declared.Dock.{Dock}
 use Rattle.record.specs.Parts.{withKeys, withReplies, withQueue}
 use Rattle.runs.specs.Calls.{Call, Read}

@@ -12,8 +12,8 @@ use Rattle.dock.specs.Answers.{taken}
 use Rattle.dock.specs.Closing.{closing}
 use Rattle.dock.specs.Read.{oldest, behindIt, oldestReply, repliesBehind, remembering, replyTaken, keyByteTaken, read, readOf}
 use Rattle.queue.specs.Queues.{waiting}
-use Rattle.queue.specs.Replies.{waitingReplies}
-use Rattle.queue.proofs.ReplyMeaning.{waiting-repliesOf}
+use Rattle.replies.specs.Replies.{waitingReplies}
+use Rattle.replies.proofs.ReplyMeaning.{waiting-repliesOf}
 use Rattle.record.specs.declared.Dock.{Dock}
 use Rattle.record.specs.Parts.{withKeys, withReplies, withQueue}
 use Rattle.runs.specs.Calls.{Call, Read}

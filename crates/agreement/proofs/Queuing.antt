@@ -10,7 +10,7 @@ use Rattle.basics.specs.Choice.{pick, both}
 use Rattle.basics.proofs.Flags.{right-of-both}
 use Rattle.keys.specs.Keys.{lastKey}
 use Rattle.codes.specs.Codes.{mayRepeat}
-use Rattle.contacts.specs.Phantom.{isPhantom}
+use Rattle.phantom.specs.Phantom.{isPhantom}
 use Rattle.contacts.specs.Counts.{countedOf}
 use Rattle.dock.specs.declared.Answer.the-variants.{Accepted, ScanLength}
 use Rattle.dock.specs.Answers.{isAccepted, answered}

@@ -10,7 +10,7 @@ use Rattle.basics.specs.Choice.{pick, both}
 use Rattle.basics.proofs.Flags.{right-of-both}
 use Rattle.basics.proofs.Cases.{never}
 use Rattle.contacts.specs.declared.Contacts.{Contacts}
-use Rattle.contacts.specs.Phantom.{isPhantom}
+use Rattle.phantom.specs.Phantom.{isPhantom}
 use Rattle.contacts.specs.Counts.{unseen, countedOf}
 use Rattle.dock.specs.Answers.{isAccepted, answered}
 use Rattle.dock.specs.declared.Answer.the-variants.{Accepted, ScanLength}

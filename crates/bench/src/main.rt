@@ -47,15 +47,15 @@ fn put(out: &mut [u8], at: usize, printed: Printed) -> usize
     match printed {
         Printed::Silence => at,
         Printed::FrameLine(frame) => {
-            out[at] = text::digits::digit_of((frame / 256 % 16) as u8);
-            out[at + 1] = text::digits::digit_of((frame / 16 % 16) as u8);
-            out[at + 2] = text::digits::digit_of((frame % 16) as u8);
+            out[at] = digits::digit_of((frame / 256 % 16) as u8);
+            out[at + 1] = digits::digit_of((frame / 16 % 16) as u8);
+            out[at + 2] = digits::digit_of((frame % 16) as u8);
             out[at + 3] = b'\n';
             at + 4
         }
         Printed::RefusalLine(number) => {
             out[at] = b'!';
-            out[at + 1] = text::digits::digit_of(number % 16);
+            out[at + 1] = digits::digit_of(number % 16);
             out[at + 2] = b'\n';
             at + 3
         }
@@ -79,14 +79,14 @@ fn run_in_place(
     let mut rest = r;
     let mut at: usize = 0;
     let mut written: usize = 0;
-    let mut end = text::kinds::end_of(text, 0);
+    let mut end = text::end_of(text, 0);
     while end < text.len() {
         let x = lines::step_in_place(map, closed, counts, held, types, rest, &text[at..end]);
         let printed = x.printed;
         rest = x.rest;
         written = put(out, written, printed);
         at = end + 1;
-        end = text::kinds::end_of(text, at);
+        end = text::end_of(text, at);
     }
     RanRest {
         rest,

@@ -1,6 +1,3 @@
-pub mod Rectangles
-pub mod Distances
-pub mod Pairs
 pub mod Bytes
 pub mod Pointwise
 pub mod Renewals

@@ -9,7 +9,7 @@ use lib.ListN.{length}
 use Rattle.basics.specs.Lists.{allUpTo}
 use Rattle.basics.proofs.Cases.{by-cases, picked}
 use Rattle.keys.specs.Keys.{lastKey}
-use Rattle.contacts.specs.Phantom.{isPhantom}
+use Rattle.phantom.specs.Phantom.{isPhantom}
 use Rattle.contacts.specs.Counts.{contacts, countedOf}
 use Rattle.frames.specs.declared.Unpacked.{Unpacked}
 use Rattle.frames.specs.declared.Unpacked.the-variants.{Byte, Broken, TooLarge}
@@ -21,9 +21,9 @@ use Rattle.keying.specs.Repeat.{ticked}
 use Rattle.keying.proofs.Good.{turns-good, ticked-good, repeated-good, handed-good}
 use Rattle.maps.specs.Maps.{hasDouble}
 use Rattle.queue.specs.declared.Queue.{Queue}
-use Rattle.queue.specs.declared.replies.Replies.{Replies}
+use Rattle.replies.specs.declared.Replies.{Replies}
 use Rattle.queue.proofs.Range.{popped-tidy}
-use Rattle.queue.proofs.ReplyMeaning.{popped-replies-tidy}
+use Rattle.replies.proofs.ReplyMeaning.{popped-replies-tidy}
 use Rattle.record.specs.declared.Keys.{Keys}
 use Rattle.record.specs.declared.Dock.{Dock}
 use Rattle.record.specs.declared.Rest.{Rest}

@@ -7,7 +7,7 @@ use borrow.Author.Tests.{eq-eqb, ne-eqb}
 use lib.Dec.{eqb}
 use lib.ListN.{length}
 use Rattle.contacts.specs.declared.Contacts.{Contacts}
-use Rattle.contacts.specs.Phantom.{isPhantom}
+use Rattle.phantom.specs.Phantom.{isPhantom}
 use Rattle.contacts.specs.Counts.{countedOf}
 use Rattle.keying.specs.Moves.{turnsTo}
 use Rattle.keying.specs.Repeat.{ticked, repeated}

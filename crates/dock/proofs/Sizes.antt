@@ -8,7 +8,7 @@ use Rattle.basics.specs.Choice.{between}
 use Rattle.basics.specs.Lists.{allUpTo}
 use Rattle.basics.proofs.Cases.{picked}
 use Rattle.keys.specs.Keys.{lastKey}
-use Rattle.contacts.specs.Phantom.{isPhantom}
+use Rattle.phantom.specs.Phantom.{isPhantom}
 use Rattle.contacts.proofs.Pointwise.{closed-length, counts-length}
 use Rattle.frames.specs.declared.Unpacked.{Unpacked}
 use Rattle.frames.specs.declared.Unpacked.the-variants.{Byte, Broken, TooLarge}

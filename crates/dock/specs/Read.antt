@@ -4,9 +4,9 @@ use lib.Dec.{eqb}
 use lib.ListN.{getD, drop}
 use Rattle.basics.specs.Choice.{pick}
 use Rattle.queue.specs.declared.Queue.{Queue}
-use Rattle.queue.specs.declared.replies.Replies.{Replies}
+use Rattle.replies.specs.declared.Replies.{Replies}
 use Rattle.queue.specs.Queues.{waiting, queueOf}
-use Rattle.queue.specs.Replies.{waitingReplies, repliesOf}
+use Rattle.replies.specs.Replies.{waitingReplies, repliesOf}
 use Rattle.record.specs.declared.Dock.{Dock}
 use Rattle.record.specs.Parts.{withKeys, withReplies, withGiven, withQueue}
 use Rattle.record.specs.Range.{inRange}

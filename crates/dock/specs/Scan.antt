@@ -5,7 +5,7 @@ use Prim.Native.Nat.{ℕ}
 use lib.Dec.{eqb}
 use lib.ListN.{length}
 use Rattle.basics.specs.Choice.{pick, both}
-use Rattle.contacts.specs.Phantom.{isPhantom}
+use Rattle.phantom.specs.Phantom.{isPhantom}
 use Rattle.contacts.specs.Counts.{countedOf}
 use Rattle.keying.specs.Moves.{turnsTo}
 use Rattle.keying.specs.Repeat.{ticked, repeated}

@@ -13,9 +13,9 @@ use Rattle.basics.proofs.Flags.{left-of-both, right-of-both}
 use Rattle.keys.specs.Keys.{lastKey}
 use Rattle.lookup.specs.Lookup.{keyWith}
 use Rattle.queue.specs.Queues.{queueOf}
-use Rattle.queue.specs.Replies.{repliesOf}
+use Rattle.replies.specs.Replies.{repliesOf}
 use Rattle.queue.proofs.Meaning.{tidy-queueOf}
-use Rattle.queue.proofs.ReplyMeaning.{tidy-repliesOf}
+use Rattle.replies.proofs.ReplyMeaning.{tidy-repliesOf}
 use Rattle.record.specs.declared.Dock.{Dock}
 use Rattle.record.specs.Power.{defaultTypes, defaultRate}
 use Rattle.record.specs.Range.{takesValue, goodWaiting, inRange}

@@ -10,8 +10,8 @@ use Rattle.basics.specs.Choice.{pick, both, between}
 use Rattle.basics.proofs.Flags.{left-of-both, right-of-both}
 use Rattle.keys.specs.Keys.{lastKey}
 use Rattle.lookup.specs.Lookup.{keyWith}
-use Rattle.queue.specs.declared.replies.Replies.{Replies}
-use Rattle.queue.specs.Replies.{repliesOf}
+use Rattle.replies.specs.declared.Replies.{Replies}
+use Rattle.replies.specs.Replies.{repliesOf}
 use Rattle.record.specs.declared.Dock.{Dock}
 use Rattle.record.specs.Parts.{withReplies, withWaiting}
 use Rattle.record.specs.Range.{takesValue}

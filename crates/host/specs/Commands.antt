@@ -8,7 +8,7 @@ use Rattle.basics.specs.Choice.{pick, both, either, between}
 use Rattle.keys.specs.Keys.{lastKey}
 use Rattle.lookup.specs.Lookup.{keyWith}
 use Rattle.queue.specs.Queues.{queueOf}
-use Rattle.queue.specs.Replies.{repliesOf}
+use Rattle.replies.specs.Replies.{repliesOf}
 use Rattle.record.specs.declared.Dock.{Dock}
 use Rattle.record.specs.Parts.{withKeys, withTypes, withMode, withReplies, withScanning, withWaiting, withQueue, withRepeat}
 use Rattle.record.specs.Power.{freshWith, defaultTypes, defaultRate}

@@ -1,10 +1,10 @@
 // The bytes that answer a command.
-use queue::replies::Replies;
-use queue::replies::one;
-use queue::replies::three;
-use queue::replies::two;
+use replies::Replies;
+use replies::one;
+use replies::three;
+use replies::two;
 ghost use mathlib.Core.Path.{_≡_};
-ghost use Rattle.queue.specs.Replies.{repliesOf};
+ghost use Rattle.replies.specs.Replies.{repliesOf};
 ghost use Rattle.host.specs.Commands.{replyTo};
 
 // What a command is answered with.

@@ -17,7 +17,7 @@ pub fn reply(r: Rest, byte: u8) -> Rest
     ensures { λ e. ⌜ RestAfter (replying (byte ∷ [])) r e ⌝ }
 {
     let mut e = r;
-    e.replies = queue::replies::one(byte);
+    e.replies = replies::one(byte);
     e
 }
 

@@ -18,7 +18,7 @@ use Rattle.record.specs.Apart.{dockWith}
 use Rattle.record.specs.Range.{inRange}
 use Rattle.text.specs.declared.Kind.{Kind}
 use Rattle.text.specs.declared.Kind.the-variants.{Read, Frame, Scan, Map, Malformed}
-use Rattle.text.specs.Digits.{bytesFrom, frameIn}
+use Rattle.digits.specs.Digits.{bytesFrom, frameIn}
 use Rattle.text.specs.Lines.{kindOf}
 use Rattle.lines.specs.declared.Printed.{Printed}
 use Rattle.lines.specs.declared.Printed.the-variants.{Silence, FrameLine, RefusalLine}

@@ -21,7 +21,7 @@ ghost use Rattle.dock.specs.Scan.{scanOf};
 ghost use Rattle.dock.specs.Swap.{swapOf};
 ghost use Rattle.dock.specs.Frame.{frameOf};
 ghost use Rattle.dock.specs.Read.{readOf};
-ghost use Rattle.text.specs.Digits.{allDigits, bytesFrom, frameIn};
+ghost use Rattle.digits.specs.Digits.{allDigits, bytesFrom, frameIn};
 ghost use Rattle.record.specs.Apart.{dockWith};
 ghost use Rattle.record.specs.Range.{inRange};
 ghost use Rattle.lines.specs.Steps.{answerPrints, readPrints, steppedBy, steppedRead, steppedWith, stepOf};
@@ -88,7 +88,7 @@ fn scan_line(
     requires { ⌜ (inRange (dockWith (now map) (now closed) (now counts) (now held) (now types) r) ≡ true) × (length (now closed) ≡ 18) × (length (now counts) ≡ 144) × (length (now line) ≡ 36) × (allDigits (now line) ≡ true) ⌝ }
     ensures { λ x. ⌜ steppedWith (now (map .entry)) (now (closed .exit)) (now (counts .exit)) (now (held .exit)) (now (types .entry)) x ≡ steppedBy (scanOf (dockWith (now (map .entry)) (now (closed .entry)) (now (counts .entry)) (now (held .entry)) (now (types .entry)) r) (bytesFrom (now (line .entry)) 0 18)) ⌝ }
 {
-    let scan = text::digits::scan_in(line);
+    let scan = digits::scan_in(line);
     let x = scan::scan_in_place(map, closed, counts, held, types, r, &scan);
     let rest = x.rest;
     let answer = x.answer;
@@ -124,7 +124,7 @@ fn frame_line(
     requires { ⌜ (restInRange (now held) (now types) r ≡ true) × (length (now line) ≡ 3) × (allDigits (now line) ≡ true) ⌝ }
     ensures { λ x. ⌜ ((map : List ℕ) → inRange (dockWith map (now (closed .entry)) (now (counts .entry)) (now (held .entry)) (now (types .entry)) r) ≡ true → steppedWith map (now (closed .exit)) (now (counts .exit)) (now (held .exit)) (now (types .exit)) x ≡ steppedBy (frameOf (dockWith map (now (closed .entry)) (now (counts .entry)) (now (held .entry)) (now (types .entry)) r) (frameIn (now (line .entry))))) ⌝ }
 {
-    let number = text::digits::frame_in(line);
+    let number = digits::frame_in(line);
     let x = wire::frame::frame_in_place(closed, counts, held, types, r, number);
     let rest = x.rest;
     let answer = x.answer;
@@ -147,7 +147,7 @@ fn map_line(
     requires { ⌜ (inRange (dockWith (now map) (now closed) (now counts) (now held) (now types) r) ≡ true) × (length (now line) ≡ 288) × (allDigits (now line) ≡ true) ⌝ }
     ensures { λ x. ⌜ steppedWith (now (map .exit)) (now (closed .exit)) (now (counts .exit)) (now (held .exit)) (now (types .entry)) x ≡ steppedBy (swapOf (dockWith (now (map .entry)) (now (closed .entry)) (now (counts .entry)) (now (held .entry)) (now (types .entry)) r) (bytesFrom (now (line .entry)) 0 144)) ⌝ }
 {
-    let new = text::digits::map_in(line);
+    let new = digits::map_in(line);
     let x = swap::swap_in_place(map, closed, counts, held, types, r, &new);
     let rest = x.rest;
     let answer = x.answer;
@@ -170,7 +170,7 @@ pub fn step_in_place(
     requires { ⌜ (inRange (dockWith (now map) (now closed) (now counts) (now held) (now types) r) ≡ true) × (length (now closed) ≡ 18) × (length (now counts) ≡ 144) ⌝ }
     ensures { λ x. ⌜ steppedWith (now (map .exit)) (now (closed .exit)) (now (counts .exit)) (now (held .exit)) (now (types .exit)) x ≡ stepOf (dockWith (now (map .entry)) (now (closed .entry)) (now (counts .entry)) (now (held .entry)) (now (types .entry)) r) (now (line .entry)) ⌝ }
 {
-    let kind = text::kinds::kind_of(line);
+    let kind = text::kind_of(line);
     match kind {
         Kind::Scan => scan_line(map, closed, counts, held, types, r, line),
         Kind::Read => read_line(held, types, r),

@@ -2,7 +2,7 @@
 use mathlib.Core.Path.{_≡_, refl}
 use mathlib.Core.List.{map}
 use lib.Count.{ones, onesIn}
-use Rattle.contacts.specs.Phantom.{sharesAny, isPhantom}
+use Rattle.phantom.specs.Phantom.{sharesAny, isPhantom}
 use Rattle.keying.specs.Repeat.{delayOf, intervalOf}
 use Rattle.queue.specs.Queues.{pushedTo, lastReplaced}
 use Rattle.keys.specs.Keys.{rows, rowOf, codeIn}

@@ -4,7 +4,7 @@ use mathlib.Core.Bool.{Bool, true, false}
 use mathlib.Core.List.{List, [], _∷_, _++_}
 use lib.ListN.{replicate}
 use Rattle.basics.specs.Choice.{pick}
-use Rattle.contacts.specs.Phantom.{isPhantom}
+use Rattle.phantom.specs.Phantom.{isPhantom}
 use Rattle.keying.specs.Repeat.{delayOf, intervalOf}
 use Rattle.keys.specs.Keys.{markOf}
 use Rattle.queue.specs.Queues.{pushedTo}

@@ -7,8 +7,6 @@ ghost use Prim.Native.Nat.{_≤_};
 ghost use lib.ListN.{length, drop};
 ghost use Rattle.queue.specs.Queues.{queueWith, waiting, queueOf, tidy, contents, hasRoom, pushedTo};
 
-pub mod replies; // replies.rt: the replies that wait
-
 // The first `length` of `bytes` wait, the oldest in front; zeros stand behind them.
 pub struct Queue {
     pub bytes: [u8; 16],

@@ -5,9 +5,9 @@ use mathlib.Core.List.{List, [], _∷_}
 use Prim.Native.Nat.{ℕ}
 use Rattle.basics.specs.Lists.{allUpTo}
 use Rattle.keys.specs.Keys.{lastKey}
-use Rattle.queue.specs.declared.replies.Replies.{Replies}
+use Rattle.replies.specs.declared.Replies.{Replies}
 use Rattle.queue.specs.Queues.{tidy, queueOf}
-use Rattle.queue.specs.Replies.{tidyReplies, repliesOf}
+use Rattle.replies.specs.Replies.{tidyReplies, repliesOf}
 use Rattle.record.specs.Power.{countUp, plainMap, freshWith, powerOn}
 use Rattle.record.specs.Range.{goodMode, goodKeys, inRange}
 use Rattle.record.proofs.Ranges.{in-range}

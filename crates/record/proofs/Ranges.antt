@@ -9,9 +9,9 @@ use Rattle.basics.proofs.Flags.{left-of-both, right-of-both}
 use Rattle.keys.specs.Keys.{lastKey}
 use Rattle.contacts.specs.declared.Contacts.{Contacts}
 use Rattle.queue.specs.declared.Queue.{Queue}
-use Rattle.queue.specs.declared.replies.Replies.{Replies}
+use Rattle.replies.specs.declared.Replies.{Replies}
 use Rattle.queue.specs.Queues.{tidy}
-use Rattle.queue.specs.Replies.{tidyReplies}
+use Rattle.replies.specs.Replies.{tidyReplies}
 use Rattle.record.specs.declared.Mode.{Mode}
 use Rattle.record.specs.declared.Keys.{Keys}
 use Rattle.record.specs.declared.Dock.{Dock}

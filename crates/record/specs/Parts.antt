@@ -4,7 +4,7 @@ use mathlib.Core.Bool.{Bool}
 use mathlib.Core.List.{List}
 use Rattle.contacts.specs.declared.Contacts.{Contacts}
 use Rattle.queue.specs.declared.Queue.{Queue}
-use Rattle.queue.specs.declared.replies.Replies.{Replies}
+use Rattle.replies.specs.declared.Replies.{Replies}
 use Rattle.record.specs.declared.Mode.{Mode}
 use Rattle.record.specs.declared.Keys.{Keys}
 use Rattle.record.specs.declared.Dock.{Dock}

@@ -5,9 +5,9 @@ use mathlib.Core.List.{List, [], _∷_, _++_, map}
 use lib.ListN.{replicate}
 use Rattle.contacts.specs.Counts.{unseen}
 use Rattle.keys.specs.Keys.{rows, noRow, rowType}
-use Rattle.queue.specs.declared.replies.Replies.{Replies}
+use Rattle.replies.specs.declared.Replies.{Replies}
 use Rattle.queue.specs.Queues.{queueOf}
-use Rattle.queue.specs.Replies.{repliesOf}
+use Rattle.replies.specs.Replies.{repliesOf}
 use Rattle.record.specs.declared.Dock.{Dock}
 
 -- n numbers from `first` on.

@@ -6,7 +6,7 @@ use Rattle.basics.specs.Choice.{both, either, between}
 use Rattle.basics.specs.Lists.{allUpTo}
 use Rattle.keys.specs.Keys.{lastKey}
 use Rattle.queue.specs.Queues.{tidy}
-use Rattle.queue.specs.Replies.{tidyReplies}
+use Rattle.replies.specs.Replies.{tidyReplies}
 use Rattle.record.specs.declared.Mode.{Mode}
 use Rattle.record.specs.declared.Keys.{Keys}
 use Rattle.record.specs.declared.Dock.{Dock}

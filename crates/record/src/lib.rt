@@ -1,7 +1,7 @@
 // The dock's record (docs/RULES.md, sections 5 to 8 and 11; docs/RECORD.md lists the range of every part).
 use contacts::Contacts;
 use queue::Queue;
-use queue::replies::Replies;
+use replies::Replies;
 
 pub mod range; // range.rt: is every part in its range
 pub mod apart; // apart.rt: the record taken apart, so that its arrays can be lent

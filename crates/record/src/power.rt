@@ -6,7 +6,7 @@ use crate::Outgoing;
 use crate::Rest;
 use crate::Types;
 use crate::apart::dock_with;
-use queue::replies::Replies;
+use replies::Replies;
 ghost use mathlib.Core.Path.{_≡_};
 ghost use mathlib.Core.List.{List};
 ghost use Prim.Native.Nat.{ℕ};
@@ -72,6 +72,6 @@ pub fn power_on() -> Dock
 {
     let map = PLAIN;
     let types = default_types();
-    let rest = fresh_rest(queue::replies::one(0xaa));
+    let rest = fresh_rest(replies::one(0xaa));
     dock_with(map, [0; 18], [0; 144], [0; 144], types, rest)
 }

@@ -54,6 +54,6 @@ pub fn in_range(d: Dock) -> bool
     all_up_to(keys::LAST_KEY, &d.map)
         & is_good_keys(keys)
         & is_good_mode(mode)
-        & queue::replies::is_tidy(replies)
+        & replies::is_tidy(replies)
         & ((d.waiting == 0) | takes_value(d.waiting))
 }

@@ -7,12 +7,12 @@ use Rattle.record.specs.Power.{countUp, plainMap, defaultTypes, freshWith, powe
 use Rattle.record.specs.Range.{inRange, goodMode, goodKeys}
 use Rattle.record.specs.Held.{modifiersOf}
 use Rattle.queue.specs.Queues.{waiting, queueOf, tidy, pushedTo, lastReplaced}
-use Rattle.queue.specs.Replies.{waitingReplies, repliesOf, tidyReplies}
+use Rattle.replies.specs.Replies.{waitingReplies, repliesOf, tidyReplies}
 use Rattle.keys.specs.Keys.{rows, rowOf, codeIn}
 use Rattle.lookup.specs.Lookup.{keyWith, firstWith}
 use Rattle.codes.specs.Codes.{encode, bytesOf, formOf, cursorForm, shiftForm, printForm, pauseForm, before, after, makeOf, breakOf, prefix, codeOf, sendsRelease, mayRepeat, pauseBytes}
 use Rattle.contacts.specs.Scans.{contact, same}
-use Rattle.contacts.specs.Phantom.{isPhantom, sharesAny}
+use Rattle.phantom.specs.Phantom.{isPhantom, sharesAny}
 use Rattle.contacts.specs.Counts.{countedOf}
 use Rattle.sending.specs.Sending.{sends, queuedOf}
 use Rattle.keying.specs.Moves.{pressed, releasedWith, released, moved, turned, turnsTo}

@@ -40,7 +40,7 @@ fn count(
     ensures { λ e. ⌜ dockWith (now (map .entry)) (now (closed .exit)) (now (counts .exit)) (now (held .exit)) (now (types .entry)) e ≡ counting (dockWith (now (map .entry)) (now (closed .entry)) (now (counts .entry)) (now (held .entry)) (now (types .entry)) r) (now (scan .entry)) ⌝ }
 {
     let was = *closed;
-    contacts::history::count(closed, counts, scan);
+    contacts::count(closed, counts, scan);
     let o = r.outgoing;
     let m = r.mode;
     let turned = moves::turns(held, o, m, types, map, &was, closed);
@@ -62,10 +62,10 @@ fn change(
     requires { ⌜ (inRange (dockWith (now map) (now closed) (now counts) (now held) (now types) r) ≡ true) × (length (now closed) ≡ 18) × (length (now counts) ≡ 144) × (length (now scan) ≡ 18) ⌝ }
     ensures { λ e. ⌜ dockWith (now (map .entry)) (now (closed .exit)) (now (counts .exit)) (now (held .exit)) (now (types .entry)) e ≡ changed (dockWith (now (map .entry)) (now (closed .entry)) (now (counts .entry)) (now (held .entry)) (now (types .entry)) r) (now (scan .entry)) ⌝ }
 {
-    if contacts::history::at_rest(closed, counts, scan) {
+    if contacts::at_rest(closed, counts, scan) {
         return r;
     }
-    if contacts::phantom::is_phantom(scan) {
+    if phantom::is_phantom(scan) {
         return r;
     }
     count(map, closed, counts, held, types, r, scan)

@@ -10,7 +10,7 @@ use lib.ListN.{length}
 use Rattle.basics.specs.Choice.{pick}
 use Rattle.text.specs.declared.Kind.{Kind}
 use Rattle.text.specs.declared.Kind.the-variants.{Read, Frame, Scan, Map, Malformed}
-use Rattle.text.specs.Digits.{allDigits}
+use Rattle.digits.specs.Digits.{allDigits}
 use Rattle.text.specs.Lines.{kindOf}
 
 module _ (line : List ℕ) where

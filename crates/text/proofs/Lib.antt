@@ -1,4 +1,2 @@
-pub mod Characters
-pub mod Bytes
 pub mod Newlines
 pub mod Lengths

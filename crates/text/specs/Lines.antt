@@ -7,7 +7,7 @@ use lib.ListN.{length, getD, drop}
 use Rattle.basics.specs.Choice.{pick, both, either}
 use Rattle.text.specs.declared.Kind.{Kind}
 use Rattle.text.specs.declared.Kind.the-variants.{Read, Frame, Scan, Map, Malformed}
-use Rattle.text.specs.Digits.{allDigits}
+use Rattle.digits.specs.Digits.{allDigits}
 
 -- An empty line is a read; 3, 36 or 288 digits are a frame, a scan or a map; anything else is malformed.
 unfoldable pub kindOf : List ℕ → Kind

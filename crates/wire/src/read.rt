@@ -36,7 +36,7 @@ fn take_reply(held: &mut Held, types: &Types, r: Rest) -> TakenRest
     let q = r.replies;
     let byte = q.bytes[0];
     let mut e = r;
-    e.replies = queue::replies::popped(q);
+    e.replies = replies::popped(q);
     TakenRest {
         given: Given::Reply(byte),
         rest: close_in_place(held, types, remember(e, byte)),

@@ -4,7 +4,7 @@ use mathlib.Core.Path.{ap, ap₂, _∙_}
 use mathlib.Core.List.{List}
 use lib.ListN.{replicate}
 use borrow.Author.Needs.{needs}
-use Rattle.queue.specs.declared.replies.Replies.{Replies}
+use Rattle.replies.specs.declared.Replies.{Replies}
 use Rattle.record.specs.declared.Rest.{Rest}
 use Rattle.record.specs.Apart.{restOf, dockWith}
 use Rattle.record.specs.Power.{countUp, plainMap, freshWith, powerOn}

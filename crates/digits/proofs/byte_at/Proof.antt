@@ -1,0 +1,66 @@
+-- `digits::byte_at` meets its contract: both characters are digits, and their values make a byte. Assumes nothing.
+use Prim.Native.Nat.{_+_, _*_}
+use native.Mathlib.Omega.{arith}
+use borrow.Author.Needs.{needs}
+use Rattle.digits.specs.Digits.{byteAt}
+use Rattle.digits.proofs.Characters.{digit-at, value-at-below-16}
+use Rattle.digits.proofs.byte_at.Statement.{statement}
+use Rattle.digits.proofs.byte_at.Tie as tie
+
+mul-value-of : tie.Need-mul-value-of
+mul-value-of c = search needs
+
+shared-slice-read-value-of : tie.Need-shared-slice-read-value-of
+shared-slice-read-value-of c = search needs
+
+value-of-requires : tie.Need-value-of-requires
+value-of-requires c κs =
+    let s = c .before .before in
+    digit-at _ _ (s .pre .1) (omega arith)
+
+mul-value-of-2 : tie.Need-mul-value-of-2
+mul-value-of-2 c = search needs
+
+add-value-of : tie.Need-add-value-of
+add-value-of c = search needs
+
+shared-slice-read-value-of-2 : tie.Need-shared-slice-read-value-of-2
+shared-slice-read-value-of-2 c = search needs
+
+value-of-requires-2 : tie.Need-value-of-requires-2
+value-of-requires-2 c κs =
+    let s = c .before .before .before .before in
+    digit-at _ _ (s .pre .1) (s .pre .0)
+
+mul-result : tie.Need-mul-result
+mul-result c =
+    let s = c .before .before .before .before .before in
+    let line = s .args .line .now in
+    let i = s .args .i in
+    omega (arith, value-at-below-16 line (2 * i) (s .pre .1), value-at-below-16 line (2 * i + 1) (s .pre .1))
+
+add-result : tie.Need-add-result
+add-result c =
+    let s = c .before .before .before .before .before in
+    let line = s .args .line .now in
+    let i = s .args .i in
+    omega (arith, value-at-below-16 line (2 * i) (s .pre .1), value-at-below-16 line (2 * i + 1) (s .pre .1))
+
+returns : tie.Need-returns
+unfolding byteAt
+returns c = search needs
+
+pub byte-at-spec : {M : Type 1} → statement M
+byte-at-spec =
+    tie.close
+    (tie.spec
+    mul-value-of
+    shared-slice-read-value-of
+    value-of-requires
+    mul-value-of-2
+    add-value-of
+    shared-slice-read-value-of-2
+    value-of-requires-2
+    mul-result
+    add-result
+    returns)

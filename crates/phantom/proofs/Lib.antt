@@ -1,0 +1,3 @@
+pub mod Rectangles
+pub mod Distances
+pub mod Pairs
