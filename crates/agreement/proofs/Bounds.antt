@@ -20,8 +20,9 @@ use Rattle.dock.specs.Read.{oldest, behindIt, oldestReply, repliesBehind, remem
 use Rattle.frames.specs.declared.Unpacked.{Unpacked}
 use Rattle.frames.specs.declared.Unpacked.the-variants.{Byte, Broken, TooLarge}
 use Rattle.frames.specs.Frames.{unpackedOf}
-use Rattle.host.specs.Commands.{replyTo, commanded, rightValue, tookValue, tookByte}
-use Rattle.host.proofs.InRange.{reply-short}
+use Rattle.commands.specs.Commands.{replyTo, commanded}
+use Rattle.host.specs.Values.{rightValue, tookValue, tookByte}
+use Rattle.commands.proofs.InRange.{reply-short}
 use Rattle.maps.specs.Maps.{hasDouble}
 use Rattle.replies.specs.declared.Replies.{Replies}
 use Rattle.queue.specs.Queues.{waiting}

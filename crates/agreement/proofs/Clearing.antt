@@ -14,7 +14,8 @@ use Rattle.dock.specs.Frame.{tookFrame, frameOf}
 use Rattle.frames.specs.declared.Unpacked.{Unpacked}
 use Rattle.frames.specs.declared.Unpacked.the-variants.{Byte, Broken, TooLarge}
 use Rattle.frames.specs.Frames.{unpackedOf}
-use Rattle.host.specs.Commands.{obeyed, commanded, tookByte}
+use Rattle.commands.specs.Commands.{obeyed, commanded}
+use Rattle.host.specs.Values.{tookByte}
 use Rattle.queue.specs.Queues.{waiting}
 use Rattle.queue.proofs.Meaning.{waiting-queueOf}
 use Rattle.record.specs.declared.Dock.{Dock}

@@ -16,8 +16,9 @@ use Rattle.frames.specs.declared.Unpacked.{Unpacked}
 use Rattle.frames.specs.declared.Unpacked.the-variants.{Byte, Broken, TooLarge}
 use Rattle.frames.specs.Frames.{unpackedOf}
 use Rattle.history.specs.Scans.{countedAll}
-use Rattle.host.specs.Commands.{replying, cleared, unrepeated, readied, enabled, defaulted, disabled, typed, restarted}
-use Rattle.host.specs.Commands.{obeyed, commanded, rightValue, valued, tookValue, tookByte}
+use Rattle.commands.specs.Commands.{replying, cleared, unrepeated, readied, enabled, defaulted, disabled, typed, restarted}
+use Rattle.commands.specs.Commands.{obeyed, commanded}
+use Rattle.host.specs.Values.{rightValue, valued, tookValue, tookByte}
 use Rattle.queue.proofs.Meaning.{places-queueOf}
 use Rattle.record.specs.declared.Dock.{Dock}
 use Rattle.record.specs.Parts.{withWaiting}

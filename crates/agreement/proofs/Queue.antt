@@ -25,7 +25,8 @@ use Rattle.dock.specs.Read.{oldest, behindIt, oldestReply, repliesBehind, remem
 use Rattle.frames.specs.declared.Unpacked.{Unpacked}
 use Rattle.frames.specs.declared.Unpacked.the-variants.{Byte, Broken, TooLarge}
 use Rattle.frames.specs.Frames.{unpackedOf}
-use Rattle.host.specs.Commands.{replying, commanded, rightValue, valued, tookValue, tookByte}
+use Rattle.commands.specs.Commands.{replying, commanded}
+use Rattle.host.specs.Values.{rightValue, valued, tookValue, tookByte}
 use Rattle.maps.specs.Maps.{hasDouble}
 use Rattle.queue.specs.Queues.{waiting}
 use Rattle.queue.proofs.Meaning.{waiting-queueOf}

@@ -14,8 +14,10 @@ use Rattle.contacts.specs.Counts.{contacts, countedOf}
 use Rattle.frames.specs.declared.Unpacked.{Unpacked}
 use Rattle.frames.specs.declared.Unpacked.the-variants.{Byte, Broken, TooLarge}
 use Rattle.frames.specs.Frames.{unpackedOf}
-use Rattle.host.specs.Commands.{replying, tookByte}
-use Rattle.host.proofs.InRange.{InRange, replying-in-range, took-in-range}
+use Rattle.commands.specs.Commands.{replying}
+use Rattle.host.specs.Values.{tookByte}
+use Rattle.commands.proofs.InRange.{InRange, replying-in-range}
+use Rattle.host.proofs.InRange.{took-in-range}
 use Rattle.keying.specs.Handover.{handedOver}
 use Rattle.keying.specs.Repeat.{ticked}
 use Rattle.keying.proofs.Good.{turns-good, ticked-good, repeated-good, handed-good}

@@ -13,7 +13,8 @@ use Rattle.contacts.proofs.Pointwise.{closed-length, counts-length}
 use Rattle.frames.specs.declared.Unpacked.{Unpacked}
 use Rattle.frames.specs.declared.Unpacked.the-variants.{Byte, Broken, TooLarge}
 use Rattle.frames.specs.Frames.{unpackedOf}
-use Rattle.host.specs.Commands.{readied, enabled, defaulted, disabled, typed, cleared, restarted, obeyed, commanded, rightValue, valued, tookValue, tookByte}
+use Rattle.commands.specs.Commands.{readied, enabled, defaulted, disabled, typed, cleared, restarted, obeyed, commanded}
+use Rattle.host.specs.Values.{rightValue, valued, tookValue, tookByte}
 use Rattle.maps.specs.Maps.{hasDouble}
 use Rattle.record.specs.declared.Dock.{Dock}
 use Rattle.record.specs.Parts.{withMap}

@@ -5,7 +5,8 @@ use Rattle.basics.specs.Choice.{pick}
 use Rattle.frames.specs.declared.Unpacked.{Unpacked}
 use Rattle.frames.specs.declared.Unpacked.the-variants.{Byte, Broken, TooLarge}
 use Rattle.frames.specs.Frames.{unpackedOf}
-use Rattle.host.specs.Commands.{replying, tookByte}
+use Rattle.commands.specs.Commands.{replying}
+use Rattle.host.specs.Values.{tookByte}
 use Rattle.record.specs.declared.Dock.{Dock}
 use Rattle.record.specs.Range.{inRange}
 use Rattle.dock.specs.declared.Answer.the-variants.{Accepted, FrameNumber, BadRecord}

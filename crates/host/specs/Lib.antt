@@ -1,1 +1,1 @@
-pub mod Commands
+pub mod Values

@@ -6,10 +6,9 @@ use record::Rest;
 use record::Types;
 ghost use mathlib.Core.List.{[], _∷_};
 ghost use Rattle.record.specs.Apart.{RestAfter, ArraysAfter};
-ghost use Rattle.host.specs.Commands.{replying, tookByte};
+ghost use Rattle.commands.specs.Commands.{replying};
+ghost use Rattle.host.specs.Values.{tookByte};
 
-mod answers; // answers.rt: the bytes that answer a command
-mod commands; // commands.rt: what each command does at once
 mod values; // values.rt: the values that commands wait for
 
 // One reply instead of those before.

@@ -5,7 +5,7 @@ use record::Types;
 ghost use mathlib.Core.Path.{_≡_};
 ghost use mathlib.Core.Bool.{true};
 ghost use Rattle.record.specs.Apart.{TypesAfter};
-ghost use Rattle.host.specs.Commands.{rightValue, valued, tookValue};
+ghost use Rattle.host.specs.Values.{rightValue, valued, tookValue};
 
 // A value that a command takes: indicators, a set, a rate, or the set 3 code of a key. No other byte takes one.
 fn is_right(command: u8, value: u8) -> bool

@@ -19,7 +19,8 @@ use Rattle.keying.specs.Moves.{pressed, releasedWith, released, moved, turned, 
 use Rattle.keying.specs.Repeat.{delayOf, intervalOf, repeated}
 use Rattle.keying.specs.Handover.{handedFrom}
 use Rattle.frames.specs.Frames.{parity, packedOf, whole, unpackedOf}
-use Rattle.host.specs.Commands.{obeyed, replyTo, commanded, rightValue, valued, tookValue, tookByte}
+use Rattle.commands.specs.Commands.{obeyed, replyTo, commanded}
+use Rattle.host.specs.Values.{rightValue, valued, tookValue, tookByte}
 use Rattle.maps.specs.Maps.{isIn, hasDouble}
 use Rattle.dock.specs.Closing.{closing}
 use Rattle.dock.specs.Scan.{listening, isCounted, counting, changed, repeating, heardScan, scanned, scanOf}

@@ -20,7 +20,7 @@ use Rattle.dock.specs.Read.{behindIt, readOf}
 use Rattle.frames.specs.declared.Unpacked.{Unpacked}
 use Rattle.frames.specs.declared.Unpacked.the-variants.{Byte, Broken, TooLarge}
 use Rattle.frames.specs.Frames.{unpackedOf}
-use Rattle.host.specs.Commands.{tookByte}
+use Rattle.host.specs.Values.{tookByte}
 use Rattle.keying.specs.Repeat.{ticked, isDue}
 use Rattle.record.specs.declared.Mode.{Mode}
 use Rattle.record.specs.declared.Keys.{Keys}

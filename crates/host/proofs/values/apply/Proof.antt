@@ -2,7 +2,7 @@
 use native.Mathlib.Omega.{arith}
 use borrow.Author.Needs.{needs}
 use Rattle.record.specs.Apart.{dockWith}
-use Rattle.host.specs.Commands.{valued}
+use Rattle.host.specs.Values.{valued}
 use Rattle.host.proofs.Rows.{valued-type, right-command, right-key}
 use Rattle.host.proofs.values.apply.Statement.{statement}
 use Rattle.host.proofs.values.apply.Tie as tie

@@ -1,7 +1,7 @@
 -- `host::values::is_right` meets its contract: each arm is a row of the definition. Assumes nothing.
 use native.Mathlib.Omega.{arith}
 use borrow.Author.Needs.{needs}
-use Rattle.host.specs.Commands.{rightValue}
+use Rattle.host.specs.Values.{rightValue}
 use Rattle.host.proofs.Rows.{right-code, right-none-below, right-none-above}
 use Rattle.host.proofs.values.is_right.Statement.{statement}
 use Rattle.host.proofs.values.is_right.Tie as tie

@@ -1,0 +1,84 @@
+-- What a command does, and what it is answered with (docs/RULES.md, section 11). Assumes nothing.
+use Prim.Native.Nat.{ℕ, suc, _-_}
+use mathlib.Core.Bool.{true, false}
+use mathlib.Core.List.{List, [], _∷_}
+use lib.Dec.{eqb}
+use lib.ListN.{replicate}
+use Rattle.basics.specs.Choice.{pick, either, between}
+use Rattle.keys.specs.Keys.{lastKey}
+use Rattle.queue.specs.Queues.{queueOf}
+use Rattle.replies.specs.Replies.{repliesOf}
+use Rattle.record.specs.declared.Dock.{Dock}
+use Rattle.record.specs.Parts.{withKeys, withTypes, withMode, withReplies, withScanning, withWaiting, withQueue, withRepeat}
+use Rattle.record.specs.Power.{freshWith, defaultTypes, defaultRate}
+use Rattle.record.specs.Range.{takesValue}
+
+-- The replies that a byte leaves waiting, instead of those before.
+abbrev pub replying : List ℕ → Dock → Dock
+replying bytes d = withReplies d (repliesOf bytes)
+
+-- No key byte waits; no key repeats.
+abbrev pub cleared : Dock → Dock
+cleared d = withKeys d (withQueue (d .keys) (queueOf []))
+
+abbrev pub unrepeated : Dock → Dock
+unrepeated d = withKeys d (withRepeat (d .keys) 0 0)
+
+-- Both: nothing queued, nothing repeating.
+abbrev pub quietened : Dock → Dock
+quietened d = unrepeated (cleared d)
+
+-- A part of the mode replaced.
+abbrev pub withSet : ℕ → Dock → Dock
+withSet set d = withMode d (record { set = set; rate = d .mode .rate; indicators = d .mode .indicators })
+
+abbrev pub withRate : ℕ → Dock → Dock
+withRate rate d = withMode d (record { set = d .mode .set; rate = rate; indicators = d .mode .indicators })
+
+-- F0, until the set is given: nothing queued, nothing repeating, the default rate.
+abbrev pub readied : Dock → Dock
+readied d = withRate defaultRate (quietened d)
+
+-- F4: nothing queued, nothing repeating, scanning on.
+abbrev pub enabled : Dock → Dock
+enabled d = withScanning (quietened d) true
+
+-- F6: nothing queued, nothing repeating, set 2, the default rate and types. F5: scanning off too.
+abbrev pub defaulted : Dock → Dock
+defaulted d = withTypes (withRate defaultRate (withSet 2 (quietened d))) defaultTypes
+
+abbrev pub disabled : Dock → Dock
+disabled d = withScanning (defaulted d) false
+
+-- F7 to FA: nothing queued, and every key has the same type.
+abbrev pub typed : ℕ → Dock → Dock
+typed kind d = withTypes (cleared d) (replicate (suc lastKey) kind)
+
+-- FF: as at power-on, but for the map. The replies are replaced when the command is answered.
+abbrev pub restarted : Dock → Dock
+restarted d = freshWith (d .map) (d .replies)
+
+-- What a command does at once. FB to FD clear, and give the type with their value.
+unfoldable pub obeyed : ℕ → Dock → Dock
+obeyed byte d =
+    pick (eqb byte 0xf0) (readied d)
+    (pick (eqb byte 0xf4) (enabled d)
+    (pick (eqb byte 0xf5) (disabled d)
+    (pick (eqb byte 0xf6) (defaulted d)
+    (pick (between 0xf7 0xfa byte) (typed (byte - 0xf7) d)
+    (pick (between 0xfb 0xfd byte) (cleared d)
+    (pick (eqb byte 0xff) (restarted d)
+    d))))))
+
+-- What a command is answered with.
+unfoldable pub replyTo : ℕ → List ℕ
+replyTo byte =
+    pick (eqb byte 0xee) (0xee ∷ [])
+    (pick (either (eqb byte 0xef) (eqb byte 0xf1)) (0xfe ∷ [])
+    (pick (eqb byte 0xf2) (0xfa ∷ 0xab ∷ 0x83 ∷ [])
+    (pick (eqb byte 0xff) (0xfa ∷ 0xaa ∷ [])
+    (0xfa ∷ []))))
+
+-- A command: it is obeyed and answered, and waits if it takes a value. It ends the wait of another.
+unfoldable pub commanded : ℕ → Dock → Dock
+commanded byte d = replying (replyTo byte) (withWaiting (obeyed byte d) (pick (takesValue byte) byte 0))
