@@ -37,7 +37,7 @@ use Rattle.runs.specs.Calls.{clears, isClearing}
 use Rattle.runs.specs.Worlds.{woken, isReset, scansAfterScan, scansAfterSwap, scansAfterFrame, next, afterCalls}
 use Rattle.runs.specs.Runs.{mayBegin, changesOverrun, overruns, undisturbed}
 use Rattle.runs.specs.Stories.{Story, outcome, flagged, saidFrom, host, nothing, showing, showingToo}
-use Rattle.runs.specs.Told.{stories, limestone, heldOn, repeated as repeatedStory, leftAlone, shiftedCursor, shiftedCursorInSet1, twelve, twelvePressed, twelveReleased, longHandover, secondSwap, waitingCommand, thirdScan, pauseStruck, refusals}
+use Rattle.runs.specs.Told.{stories, limestone, heldOn, repeated as repeatedStory, shiftedCursor, shiftedCursorInSet1, twelve, twelvePressed, twelveReleased, longHandover, secondSwap, waitingCommand, thirdScan, pauseStruck, refusals}
 
 -- The list names every unfoldable definition that a story computes through, crate by crate. If one is missing, the two sides stand
 -- still and `refl` is refused: add it here.
@@ -65,6 +65,6 @@ unfolding
     begun hears
     clears isClearing isReset woken scansAfterScan scansAfterSwap scansAfterFrame next afterCalls mayBegin changesOverrun
     overruns undisturbed outcome flagged saidFrom host nothing showing showingToo stories limestone heldOn repeatedStory
-    leftAlone shiftedCursor shiftedCursorInSet1 twelve twelvePressed twelveReleased givenIn longHandover secondSwap
+    shiftedCursor shiftedCursorInSet1 twelve twelvePressed twelveReleased givenIn longHandover secondSwap
     waitingCommand thirdScan pauseStruck refusals
 all-as-told = refl

@@ -19,19 +19,13 @@ heldOn =
     (scans 3 (showing 0 4) ++ reads 1 ++ scans 2 nothing ++ scans 1 (showing 0 4) ++ scans 2 nothing)
     (agreeing (0x1e ∷ []) (3 ∷ []))
 
--- A repeat is read as a press of the key that is down. The quickest rate is chosen: F3 00.
+-- A repeat is read as a press of the key that is down; after a swap nothing repeats any more. The quickest rate is chosen, F3 00: a repeat
+-- after 60 scans, and the next would come 8 scans later.
 unfoldable pub repeated : Story
 repeated =
     story (reads 1 ++ host 0xf3 ++ host 0)
-    (scans 63 (showing 0 4) ++ reads 1 ++ scans 8 (showing 0 4) ++ reads 1)
-    (agreeing (0x1e ∷ 0x1e ∷ []) (3 ∷ []))
-
--- After a swap nothing repeats, however long the new panel is left alone.
-unfoldable pub leftAlone : Story
-leftAlone =
-    story (reads 1 ++ host 0xf3 ++ host 0)
-    (scans 3 (showing 0 4) ++ reads 1 ++ Swap plainMap ∷ reads 2 ++ scans 61 nothing ++ reads 1)
-    (agreeing (0x1e ∷ 0xf0 ∷ 0x1e ∷ []) [])
+    (scans 3 (showing 0 4) ++ reads 1 ++ scans 60 (showing 0 4) ++ reads 1 ++ Swap plainMap ∷ reads 2 ++ scans 9 nothing ++ reads 1)
+    (agreeing (0x1e ∷ 0x1e ∷ 0xf0 ∷ 0x1e ∷ []) [])
 
 -- SHIFT and UP are held when the panel is swapped: both come up, UP in its base form, since SHIFT came up before it.
 unfoldable pub shiftedCursor : Story
@@ -96,5 +90,5 @@ refusals =
 -- All of them.
 unfoldable pub stories : List Story
 stories =
-    limestone ∷ heldOn ∷ repeated ∷ leftAlone ∷ shiftedCursor ∷ shiftedCursorInSet1 ∷ longHandover ∷ secondSwap ∷ waitingCommand
+    limestone ∷ heldOn ∷ repeated ∷ shiftedCursor ∷ shiftedCursorInSet1 ∷ longHandover ∷ secondSwap ∷ waitingCommand
     ∷ thirdScan ∷ pauseStruck ∷ refusals ∷ []
