@@ -15,7 +15,7 @@ use Rattle.dock.specs.Scan.{quiet}
 use Rattle.dock.specs.Read.{remembering, replyTaken, keyByteTaken, read, readOf}
 use Rattle.history.specs.Scans.{saysHeld}
 use Rattle.record.specs.declared.Dock.{Dock}
-use Rattle.record.specs.Range.{inRange}
+use Rattle.range.specs.Range.{inRange}
 use Rattle.runs.specs.Calls.{Call, Read, isClearingCall}
 use Rattle.runs.specs.Worlds.{World, woken, next, afterCalls, scansSay}
 use Rattle.runs.specs.Runs.{mayBegin, beginning, overrunsIn, undisturbed}

@@ -13,8 +13,8 @@ use Rattle.history.specs.Scans.{countedAll}
 use Rattle.maps.specs.Maps.{isIn, hasDouble}
 use Rattle.queue.specs.Queues.{queueOf}
 use Rattle.record.specs.Power.{countUp, plainMap, freshWith, powerOn}
-use Rattle.record.specs.Range.{inRange}
-use Rattle.record.proofs.PowerOn.{power-on-in-range}
+use Rattle.range.specs.Range.{inRange}
+use Rattle.range.proofs.PowerOn.{power-on-in-range}
 use Rattle.runs.specs.Calls.{Call, Scan, Swap, Frame, Read, isClearingCall}
 use Rattle.runs.specs.Worlds.{World, woken, next, afterCalls}
 use Rattle.runs.specs.Runs.{overrunsIn, undisturbed}

@@ -32,8 +32,8 @@ use Rattle.replies.proofs.ReplyMeaning.{replies-short, length-waitingReplies, p
 use Rattle.record.specs.declared.Dock.{Dock}
 use Rattle.record.specs.Parts.{withKeys, withReplies, withQueue}
 use Rattle.record.specs.Power.{freshWith, powerOn}
-use Rattle.record.specs.Range.{inRange}
-use Rattle.record.proofs.Ranges.{good-keys-queue, in-range-keys, in-range-replies}
+use Rattle.range.specs.Range.{inRange}
+use Rattle.range.proofs.Ranges.{good-keys-queue, in-range-keys, in-range-replies}
 use Rattle.runs.specs.Calls.{Call, Scan, Swap, Frame, Read}
 use Rattle.runs.specs.Worlds.{World, woken, next, afterCalls}
 use Rattle.agreement.proofs.AnyCalls.{Sound, woken-sound, any-sound}

@@ -23,7 +23,7 @@ use Rattle.queue.proofs.Meaning.{places-queueOf}
 use Rattle.record.specs.declared.Dock.{Dock}
 use Rattle.record.specs.Parts.{withWaiting}
 use Rattle.record.specs.Power.{freshWith}
-use Rattle.record.specs.Range.{takesValue, inRange}
+use Rattle.range.specs.Range.{takesValue, inRange}
 use Rattle.runs.specs.Calls.{clears, carries, isClearing}
 use Rattle.runs.specs.Worlds.{isReset, scansAfterFrame}
 use Rattle.telling.proofs.Held.{none-agree, contact-open}

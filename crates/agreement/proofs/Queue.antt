@@ -33,7 +33,7 @@ use Rattle.queue.proofs.Meaning.{waiting-queueOf}
 use Rattle.record.specs.declared.Keys.{Keys}
 use Rattle.record.specs.declared.Dock.{Dock}
 use Rattle.record.specs.Parts.{withKeys, withReplies, withQueue}
-use Rattle.record.specs.Range.{inRange}
+use Rattle.range.specs.Range.{inRange}
 use Rattle.runs.specs.Calls.{Call, Scan, Swap, Frame, Read, clears, carries, isClearing, isClearingCall}
 use Rattle.runs.specs.Worlds.{World, woken, next, afterCalls}
 use Rattle.runs.specs.Runs.{overrunsIn, undisturbed}

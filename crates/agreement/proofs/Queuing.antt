@@ -24,7 +24,7 @@ use Rattle.record.specs.declared.Mode.{Mode}
 use Rattle.record.specs.declared.Keys.{Keys}
 use Rattle.record.specs.declared.Dock.{Dock}
 use Rattle.record.specs.Parts.{withKeys}
-use Rattle.record.specs.Range.{inRange}
+use Rattle.range.specs.Range.{inRange}
 use Rattle.runs.specs.Calls.{Scan}
 use Rattle.runs.specs.Runs.{changesOverrun, overruns}
 use Rattle.runs.specs.Bytes.{repeatBytes, changeBytes, heardBytes, closingBytes, scanBytes, queuedBy}

@@ -23,7 +23,7 @@ use Rattle.keying.proofs.Places.{turns-places, repeated-places}
 use Rattle.record.specs.declared.Keys.{Keys}
 use Rattle.record.specs.declared.Dock.{Dock}
 use Rattle.record.specs.Parts.{withKeys}
-use Rattle.record.specs.Range.{inRange}
+use Rattle.range.specs.Range.{inRange}
 use Rattle.runs.specs.Runs.{changesOverrun, overruns}
 use Rattle.runs.specs.Worlds.{scansAfterScan}
 use Rattle.telling.proofs.Held.{turns-agree}

@@ -19,7 +19,7 @@ use Rattle.history.specs.Scans.{countedAll}
 use Rattle.maps.specs.Maps.{hasDouble}
 use Rattle.record.specs.declared.Dock.{Dock}
 use Rattle.record.specs.Parts.{withMap}
-use Rattle.record.specs.Range.{inRange}
+use Rattle.range.specs.Range.{inRange}
 use Rattle.runs.specs.Worlds.{scansAfterSwap}
 use Rattle.basics.proofs.Cases.{by-cases, picked, never}
 use Rattle.terminal.specs.Terminals.{Terminal}

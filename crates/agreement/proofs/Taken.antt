@@ -17,7 +17,7 @@ use Rattle.queue.specs.Queues.{waiting}
 use Rattle.queue.proofs.Meaning.{places-queueOf}
 use Rattle.record.specs.declared.Dock.{Dock}
 use Rattle.record.specs.Parts.{withKeys, withReplies, withQueue}
-use Rattle.record.specs.Range.{inRange}
+use Rattle.range.specs.Range.{inRange}
 use Rattle.runs.specs.Worlds.{takes}
 use Rattle.basics.proofs.Cases.{by-cases, picked}
 use Rattle.telling.proofs.Told.{byte-told}

@@ -16,7 +16,7 @@ ghost use mathlib.Core.Bool.{true};
 ghost use Prim.Native.Nat.{_≤_, _+_};
 ghost use lib.ListN.{length};
 ghost use Rattle.record.specs.Apart.{dockWith};
-ghost use Rattle.record.specs.Range.{inRange};
+ghost use Rattle.range.specs.Range.{inRange};
 
 // What is left of a text after its whole lines were run: the dock, the characters used, and the characters to be printed.
 struct Ran {

@@ -15,12 +15,12 @@ use Rattle.queue.proofs.Meaning.{tidy-queueOf}
 use Rattle.replies.proofs.ReplyMeaning.{tidy-repliesOf}
 use Rattle.record.specs.declared.Dock.{Dock}
 use Rattle.record.specs.Power.{defaultTypes, defaultRate}
-use Rattle.record.specs.Range.{takesValue, goodWaiting, inRange}
-use Rattle.record.proofs.Ranges.{good-mode, good-mode-set, good-mode-rate, good-mode-indicators, good-keys-with-queue, good-keys-with-repeat}
-use Rattle.record.proofs.Ranges.{in-range-map, in-range-keys, in-range-mode, in-range-replies}
-use Rattle.record.proofs.Ranges.{in-range-with-keys, in-range-with-types, in-range-with-mode}
-use Rattle.record.proofs.Ranges.{in-range-with-replies, in-range-with-waiting, in-range-with-scanning}
-use Rattle.record.proofs.PowerOn.{fresh-in-range}
+use Rattle.range.specs.Range.{takesValue, goodWaiting, inRange}
+use Rattle.range.proofs.Ranges.{good-mode, good-mode-set, good-mode-rate, good-mode-indicators, good-keys-with-queue, good-keys-with-repeat}
+use Rattle.range.proofs.Ranges.{in-range-map, in-range-keys, in-range-mode, in-range-replies}
+use Rattle.range.proofs.Ranges.{in-range-with-keys, in-range-with-types, in-range-with-mode}
+use Rattle.range.proofs.Ranges.{in-range-with-replies, in-range-with-waiting, in-range-with-scanning}
+use Rattle.range.proofs.PowerOn.{fresh-in-range}
 use Rattle.commands.specs.Commands.{replying, cleared, unrepeated, quietened, withSet, withRate}
 use Rattle.commands.specs.Commands.{readied, enabled, defaulted, disabled, typed, restarted, obeyed, replyTo, commanded}
 

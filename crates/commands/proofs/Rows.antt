@@ -11,7 +11,7 @@ use Rattle.replies.specs.declared.Replies.{Replies}
 use Rattle.replies.specs.Replies.{repliesOf}
 use Rattle.record.specs.declared.Dock.{Dock}
 use Rattle.record.specs.Parts.{withReplies, withWaiting}
-use Rattle.record.specs.Range.{takesValue}
+use Rattle.range.specs.Range.{takesValue}
 use Rattle.commands.specs.Commands.{cleared, typed, restarted, obeyed, replyTo, commanded}
 
 -- What a command does at once.

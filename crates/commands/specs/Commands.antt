@@ -11,7 +11,7 @@ use Rattle.replies.specs.Replies.{repliesOf}
 use Rattle.record.specs.declared.Dock.{Dock}
 use Rattle.record.specs.Parts.{withKeys, withTypes, withMode, withReplies, withScanning, withWaiting, withQueue, withRepeat}
 use Rattle.record.specs.Power.{freshWith, defaultTypes, defaultRate}
-use Rattle.record.specs.Range.{takesValue}
+use Rattle.range.specs.Range.{takesValue}
 
 -- The replies that a byte leaves waiting, instead of those before.
 abbrev pub replying : List ℕ → Dock → Dock

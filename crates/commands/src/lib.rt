@@ -152,7 +152,7 @@ pub fn command(
     let mut e = obey(closed, counts, held, types, r, byte);
     e.replies = reply_to(byte);
     e.waiting = 0;
-    if record::range::takes_value(byte) {
+    if range::takes_value(byte) {
         e.waiting = byte;
     }
     e

@@ -31,11 +31,11 @@ use Rattle.record.specs.declared.Dock.{Dock}
 use Rattle.record.specs.declared.Rest.{Rest}
 use Rattle.record.specs.Apart.{restOf, dockWith}
 use Rattle.record.specs.Parts.{withContacts, withKeys, withReplies, withQueue}
-use Rattle.record.specs.Range.{inRange}
-use Rattle.record.proofs.Ranges.{good-keys-queue, good-keys-with-queue, good-keys-with-repeat}
-use Rattle.record.proofs.Ranges.{in-range, in-range-map, in-range-keys, in-range-mode, in-range-replies, in-range-waiting}
-use Rattle.record.proofs.Ranges.{in-range-with-map, in-range-with-contacts, in-range-with-keys, in-range-with-replies}
-use Rattle.record.proofs.Ranges.{in-range-with-handover, in-range-with-given}
+use Rattle.range.specs.Range.{inRange}
+use Rattle.range.proofs.Ranges.{good-keys-queue, good-keys-with-queue, good-keys-with-repeat}
+use Rattle.range.proofs.Ranges.{in-range, in-range-map, in-range-keys, in-range-mode, in-range-replies, in-range-waiting}
+use Rattle.range.proofs.Ranges.{in-range-with-map, in-range-with-contacts, in-range-with-keys, in-range-with-replies}
+use Rattle.range.proofs.Ranges.{in-range-with-handover, in-range-with-given}
 use Rattle.dock.specs.declared.Answered.{Answered}
 use Rattle.dock.specs.declared.Taken.{Taken}
 use Rattle.dock.specs.Closing.{closing, restInRange}

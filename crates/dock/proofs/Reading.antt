@@ -12,7 +12,7 @@ use Rattle.queue.specs.Queues.{waiting}
 use Rattle.replies.specs.Replies.{waitingReplies}
 use Rattle.record.specs.declared.Dock.{Dock}
 use Rattle.record.specs.Parts.{withKeys, withReplies, withQueue}
-use Rattle.record.specs.Range.{inRange}
+use Rattle.range.specs.Range.{inRange}
 use Rattle.dock.specs.declared.Given.the-variants.{Nothing, Reply, KeyByte, Refused}
 use Rattle.dock.specs.declared.Taken.{Taken}
 use Rattle.dock.specs.Answers.{taken}

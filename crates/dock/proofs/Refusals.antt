@@ -14,7 +14,7 @@ use Rattle.frames.specs.declared.Unpacked.the-variants.{Byte, Broken, TooLarge}
 use Rattle.frames.specs.Frames.{unpackedOf}
 use Rattle.maps.specs.Maps.{hasDouble}
 use Rattle.record.specs.declared.Dock.{Dock}
-use Rattle.record.specs.Range.{inRange}
+use Rattle.range.specs.Range.{inRange}
 use Rattle.dock.specs.declared.Answer.the-variants.{Accepted}
 use Rattle.dock.specs.declared.Answered.{Answered}
 use Rattle.dock.specs.declared.Given.the-variants.{Refused}

@@ -11,7 +11,7 @@ use Rattle.keys.specs.Keys.{lastKey}
 use Rattle.maps.specs.Maps.{hasDouble}
 use Rattle.record.specs.declared.Dock.{Dock}
 use Rattle.record.specs.Parts.{withMap}
-use Rattle.record.specs.Range.{inRange}
+use Rattle.range.specs.Range.{inRange}
 use Rattle.dock.specs.declared.Answer.the-variants.{Accepted, MapLength, MapEntry, MapDouble, BadRecord}
 use Rattle.dock.specs.Answers.{answered}
 use Rattle.dock.specs.Closing.{closing}

@@ -10,7 +10,7 @@ use Rattle.record.specs.declared.Dock.{Dock}
 use Rattle.record.specs.declared.Rest.{Rest}
 use Rattle.record.specs.Apart.{dockWith}
 use Rattle.record.specs.Parts.{withKeys, withHandover}
-use Rattle.record.specs.Range.{inRange}
+use Rattle.range.specs.Range.{inRange}
 
 -- The record with the keys that were handed over, and the handover as far as it got.
 abbrev pub withHanded : Dock → Handed → Dock

@@ -8,7 +8,7 @@ use Rattle.frames.specs.Frames.{unpackedOf}
 use Rattle.commands.specs.Commands.{replying}
 use Rattle.host.specs.Values.{tookByte}
 use Rattle.record.specs.declared.Dock.{Dock}
-use Rattle.record.specs.Range.{inRange}
+use Rattle.range.specs.Range.{inRange}
 use Rattle.dock.specs.declared.Answer.the-variants.{Accepted, FrameNumber, BadRecord}
 use Rattle.dock.specs.declared.Answered.{Answered}
 use Rattle.dock.specs.Answers.{answered}

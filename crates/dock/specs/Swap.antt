@@ -10,7 +10,7 @@ use Rattle.keys.specs.Keys.{lastKey}
 use Rattle.contacts.specs.Counts.{unseen}
 use Rattle.record.specs.declared.Dock.{Dock}
 use Rattle.record.specs.Parts.{withMap, withContacts, withKeys, withHandover, withRepeat}
-use Rattle.record.specs.Range.{inRange}
+use Rattle.range.specs.Range.{inRange}
 use Rattle.dock.specs.declared.Answer.the-variants.{Accepted, MapLength, MapEntry, MapDouble, BadRecord}
 use Rattle.dock.specs.declared.Answered.{Answered}
 use Rattle.dock.specs.Answers.{answered}

@@ -14,7 +14,7 @@ use Rattle.codes.specs.Sequences.{holding}
 use Rattle.queue.specs.Queues.{waiting, contents, hasRoom}
 use Rattle.record.specs.declared.Mode.{Mode}
 use Rattle.record.specs.declared.Keys.{Keys}
-use Rattle.record.specs.Range.{goodKeys}
+use Rattle.range.specs.Range.{goodKeys}
 use Rattle.sending.specs.Sending.{sends}
 use Rattle.sending.proofs.Sent.{sequence-length}
 use Rattle.keying.specs.declared.Handed.{Handed}

@@ -14,7 +14,7 @@ ghost use mathlib.Core.Bool.{true};
 ghost use Prim.Native.Nat.{_≤_, _<_};
 ghost use Rattle.queue.specs.Queues.{contents};
 ghost use Rattle.record.specs.Apart.{keysWith};
-ghost use Rattle.record.specs.Range.{goodKeys, goodMode};
+ghost use Rattle.range.specs.Range.{goodKeys, goodMode};
 ghost use Rattle.keying.specs.Moves.{letGo, releasedWith};
 ghost use Rattle.keying.specs.Handover.{handedWith, handedOver};
 

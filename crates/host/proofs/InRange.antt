@@ -12,9 +12,9 @@ use Rattle.basics.proofs.Flags.{left-of-both, right-of-both}
 use Rattle.keys.specs.Keys.{lastKey}
 use Rattle.lookup.specs.Lookup.{keyWith}
 use Rattle.record.specs.declared.Dock.{Dock}
-use Rattle.record.specs.Range.{inRange}
-use Rattle.record.proofs.Ranges.{good-mode, good-mode-set, good-mode-rate, in-range-mode}
-use Rattle.record.proofs.Ranges.{in-range-with-types, in-range-with-mode, in-range-with-waiting}
+use Rattle.range.specs.Range.{inRange}
+use Rattle.range.proofs.Ranges.{good-mode, good-mode-set, good-mode-rate, in-range-mode}
+use Rattle.range.proofs.Ranges.{in-range-with-types, in-range-with-mode, in-range-with-waiting}
 use Rattle.commands.specs.Commands.{withSet, withRate, commanded}
 use Rattle.commands.proofs.InRange.{InRange, replying-in-range, set-in-range, rate-in-range, commanded-in-range}
 use Rattle.host.specs.Values.{withIndicators, withType, rightValue, valued, tookValue, tookByte}

@@ -17,8 +17,8 @@ use Rattle.queue.proofs.Meaning.{tidy-short, tidy-queueOf}
 use Rattle.queue.proofs.Range.{pushed-tidy}
 use Rattle.record.specs.declared.Mode.{Mode}
 use Rattle.record.specs.declared.Keys.{Keys}
-use Rattle.record.specs.Range.{goodMode, goodKeys}
-use Rattle.record.proofs.Ranges.{good-mode-rate, good-keys, good-keys-queue, good-keys-repeating, good-keys-countdown, good-keys-with-repeat}
+use Rattle.range.specs.Range.{goodMode, goodKeys}
+use Rattle.range.proofs.Ranges.{good-mode-rate, good-keys, good-keys-queue, good-keys-repeating, good-keys-countdown, good-keys-with-repeat}
 use Rattle.sending.specs.Sending.{sends, queuedOf}
 use Rattle.sending.proofs.Sent.{sends-short}
 use Rattle.keying.specs.Repeat.{delayOf, intervalOf, ticked, isDue, repeated}

@@ -9,7 +9,7 @@ ghost use mathlib.Core.Path.{_≡_};
 ghost use mathlib.Core.Bool.{true};
 ghost use Prim.Native.Nat.{_≤_};
 ghost use Rattle.record.specs.Apart.{keysWith};
-ghost use Rattle.record.specs.Range.{goodKeys, goodMode};
+ghost use Rattle.range.specs.Range.{goodKeys, goodMode};
 ghost use Rattle.keying.specs.Repeat.{delayOf, intervalOf, tickedOn, repeated};
 
 // The scans from a press to its first repeat.

@@ -6,7 +6,7 @@ use Prim.Native.Nat.{ℕ}
 use Rattle.dock.specs.declared.Answered.{Answered}
 use Rattle.dock.specs.declared.Taken.{Taken}
 use Rattle.record.specs.declared.Dock.{Dock}
-use Rattle.record.specs.Range.{inRange}
+use Rattle.range.specs.Range.{inRange}
 use Rattle.text.specs.declared.Kind.{Kind}
 use Rattle.text.specs.Lines.{kindOf}
 use Rattle.lines.specs.declared.Printed.{Printed}

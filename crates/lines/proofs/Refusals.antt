@@ -15,7 +15,7 @@ use Rattle.dock.specs.Scan.{scanOf}
 use Rattle.dock.specs.Swap.{swapOf}
 use Rattle.dock.proofs.Refusals.{scan-refused, swap-refused, frame-refused, read-refused}
 use Rattle.record.specs.declared.Dock.{Dock}
-use Rattle.record.specs.Range.{inRange}
+use Rattle.range.specs.Range.{inRange}
 use Rattle.text.specs.declared.Kind.{Kind}
 use Rattle.text.specs.declared.Kind.the-variants.{Read, Frame, Scan, Map, Malformed}
 use Rattle.digits.specs.Digits.{bytesFrom, frameIn}

@@ -23,7 +23,7 @@ ghost use Rattle.dock.specs.Frame.{frameOf};
 ghost use Rattle.dock.specs.Read.{readOf};
 ghost use Rattle.digits.specs.Digits.{allDigits, bytesFrom, frameIn};
 ghost use Rattle.record.specs.Apart.{dockWith};
-ghost use Rattle.record.specs.Range.{inRange};
+ghost use Rattle.range.specs.Range.{inRange};
 ghost use Rattle.lines.specs.Steps.{answerPrints, readPrints, steppedBy, steppedRead, steppedWith, stepOf};
 
 // What a line prints.
@@ -187,7 +187,7 @@ pub fn step_in_place(
 pub fn step(d: Dock, line: &[u8]) -> Stepped
     ensures { λ r. ⌜ r ≡ stepOf d (now (line .entry)) ⌝ }
 {
-    if !record::range::in_range(d) {
+    if !range::in_range(d) {
         return Stepped {
             dock: d,
             printed: Printed::RefusalLine(9),

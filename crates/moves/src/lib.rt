@@ -18,7 +18,7 @@ ghost use lib.ListN.{length};
 ghost use Rattle.basics.specs.Lists.{allUpTo};
 ghost use Rattle.keys.specs.Keys.{laidOut, lastKey};
 ghost use Rattle.record.specs.Apart.{keysWith};
-ghost use Rattle.record.specs.Range.{goodKeys, goodMode};
+ghost use Rattle.range.specs.Range.{goodKeys, goodMode};
 ghost use Rattle.keying.specs.Moves.{keysTold, pressed, released, moved, turnsTo, rowsTo};
 
 // A key is pressed.

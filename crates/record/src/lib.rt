@@ -3,7 +3,6 @@ use contacts::Contacts;
 use queue::Queue;
 use replies::Replies;
 
-pub mod range; // range.rt: is every part in its range
 pub mod apart; // apart.rt: the record taken apart, so that its arrays can be lent
 pub mod power; // power.rt: the record at power-on
 

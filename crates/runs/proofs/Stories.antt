@@ -4,7 +4,7 @@ use lib.Count.{ones, onesIn}
 use mathlib.Core.List.{map}
 use Rattle.basics.specs.Lists.{allUpTo}
 use Rattle.record.specs.Power.{countUp, plainMap, defaultTypes, freshWith, powerOn}
-use Rattle.record.specs.Range.{inRange, goodMode, goodKeys}
+use Rattle.range.specs.Range.{inRange, goodMode, goodKeys}
 use Rattle.record.specs.Held.{modifiersOf}
 use Rattle.queue.specs.Queues.{waiting, queueOf, tidy, pushedTo, lastReplaced}
 use Rattle.replies.specs.Replies.{waitingReplies, repliesOf, tidyReplies}

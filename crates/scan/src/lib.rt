@@ -14,7 +14,7 @@ ghost use mathlib.Core.List.{List};
 ghost use Prim.Native.Nat.{ℕ};
 ghost use lib.ListN.{length};
 ghost use Rattle.record.specs.Apart.{dockWith};
-ghost use Rattle.record.specs.Range.{inRange};
+ghost use Rattle.range.specs.Range.{inRange};
 ghost use Rattle.dock.specs.Answers.{answeredWith};
 ghost use Rattle.dock.specs.Closing.{restInRange, HeldAfter};
 ghost use Rattle.dock.specs.Scan.{listening, counting, changed, repeating, heardScan, scanOf};

@@ -15,7 +15,7 @@ ghost use Rattle.codes.specs.Codes.{pausesAtOnce, sendsRelease};
 ghost use Rattle.codes.specs.Sequences.{holding};
 ghost use Rattle.keys.specs.Keys.{markOf, laidOut};
 ghost use Rattle.queue.specs.Queues.{queueWith, tidy, contents};
-ghost use Rattle.record.specs.Range.{goodMode};
+ghost use Rattle.range.specs.Range.{goodMode};
 ghost use Rattle.record.specs.Held.{flagOf, modifiersOf};
 ghost use Rattle.sending.specs.Sending.{numLock, sendsWith, queuedOf, shortestRelease};
 

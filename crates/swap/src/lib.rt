@@ -15,7 +15,7 @@ ghost use mathlib.Core.Bool.{true};
 ghost use mathlib.Core.List.{List};
 ghost use Prim.Native.Nat.{ℕ};
 ghost use Rattle.record.specs.Apart.{dockWith};
-ghost use Rattle.record.specs.Range.{inRange};
+ghost use Rattle.range.specs.Range.{inRange};
 ghost use Rattle.dock.specs.Answers.{answeredWith};
 ghost use Rattle.dock.specs.Swap.{remapped, swapOf};
 
@@ -59,7 +59,7 @@ pub fn swap_in_place(
         };
     }
     let m = copied(new);
-    if !record::range::all_up_to(keys::LAST_KEY, &m) {
+    if !range::all_up_to(keys::LAST_KEY, &m) {
         return AnsweredRest {
             answer: Answer::MapEntry,
             rest: r,

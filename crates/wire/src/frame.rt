@@ -15,7 +15,7 @@ ghost use mathlib.Core.Bool.{true};
 ghost use mathlib.Core.List.{List};
 ghost use Prim.Native.Nat.{ℕ};
 ghost use Rattle.record.specs.Apart.{dockWith};
-ghost use Rattle.record.specs.Range.{inRange};
+ghost use Rattle.range.specs.Range.{inRange};
 ghost use Rattle.dock.specs.Answers.{answeredWith};
 ghost use Rattle.dock.specs.Closing.{restInRange};
 ghost use Rattle.dock.specs.Frame.{frameOf};

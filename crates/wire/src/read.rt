@@ -11,7 +11,7 @@ ghost use mathlib.Core.List.{List};
 ghost use Prim.Native.Nat.{ℕ, _≤_};
 ghost use Rattle.record.specs.declared.Dock.{Dock};
 ghost use Rattle.record.specs.Apart.{dockWith, RestAfter};
-ghost use Rattle.record.specs.Range.{inRange};
+ghost use Rattle.range.specs.Range.{inRange};
 ghost use Rattle.dock.specs.Answers.{takenWith};
 ghost use Rattle.dock.specs.Closing.{restInRange};
 ghost use Rattle.dock.specs.Read.{remembering, replyTaken, keyByteTaken, readOf};

@@ -1,8 +1,8 @@
 -- `bench::main` is safe: the record at power-on is in range, and the buffers have their lengths. Assumes nothing.
 use mathlib.Core.Path.{ap, _∙_}
 use borrow.Author.Needs.{needs}
-use Rattle.record.specs.Range.{inRange}
-use Rattle.record.proofs.PowerOn.{power-on-in-range}
+use Rattle.range.specs.Range.{inRange}
+use Rattle.range.proofs.PowerOn.{power-on-in-range}
 use Rattle.bench.proofs.main.Statement.{statement}
 use Rattle.bench.proofs.main.Tie as tie
 

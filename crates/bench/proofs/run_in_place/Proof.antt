@@ -9,7 +9,7 @@ use lib.ListN.{length}
 use Rattle.lines.proofs.InRange.{stepped-in-range}
 use Rattle.lines.proofs.Lengths.{stepped-lengths}
 use Rattle.record.specs.Apart.{dockWith}
-use Rattle.record.specs.Range.{inRange}
+use Rattle.range.specs.Range.{inRange}
 use Rattle.text.proofs.Newlines.{line-end-after, line-end-within}
 use Rattle.bench.proofs.run_in_place.Statement.{statement}
 use Rattle.bench.proofs.run_in_place.Tie as tie

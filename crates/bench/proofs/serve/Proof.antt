@@ -4,7 +4,7 @@ use mathlib.Core.Bool.{true}
 use Prim.Native.Nat.{_≤_}
 use borrow.Author.Needs.{needs}
 use lib.ListN.{length}
-use Rattle.record.specs.Range.{inRange}
+use Rattle.range.specs.Range.{inRange}
 use Rattle.bench.proofs.serve.Statement.{statement}
 use Rattle.bench.proofs.serve.Tie as tie
 

@@ -10,7 +10,7 @@ use Rattle.keys.specs.Keys.{lastKey}
 use Rattle.codes.specs.declared.Action.the-variants.{Release}
 use Rattle.queue.proofs.Meaning.{tidy-short}
 use Rattle.record.specs.Apart.{keysWith}
-use Rattle.record.proofs.Ranges.{good-keys-queue}
+use Rattle.range.proofs.Ranges.{good-keys-queue}
 use Rattle.sending.specs.Sending.{sends}
 use Rattle.sending.proofs.Sent.{sequence-short}
 use Rattle.handover.proofs.Leaving.{Going, begins, passes, leaves, waits, ends}

@@ -10,7 +10,7 @@ use lib.ListN.{length}
 use Rattle.basics.proofs.Limits.{up-to-at}
 use Rattle.keys.specs.Keys.{lastKey}
 use Rattle.record.specs.declared.Keys.{Keys}
-use Rattle.record.specs.Range.{goodKeys}
+use Rattle.range.specs.Range.{goodKeys}
 use Rattle.keying.specs.Moves.{keysTold, rowsTo}
 use Rattle.keying.proofs.Good.{moved-good}
 use Rattle.keying.proofs.Places.{moved-bytes}

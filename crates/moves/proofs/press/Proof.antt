@@ -3,7 +3,7 @@ use Prim.Native.Nat.{_≤_}
 use native.Mathlib.Omega.{arith}
 use borrow.Author.Needs.{needs}
 use Rattle.queue.specs.Queues.{queueWith}
-use Rattle.record.proofs.Ranges.{good-mode-rate, good-keys-queue}
+use Rattle.range.proofs.Ranges.{good-mode-rate, good-keys-queue}
 use Rattle.sending.specs.Sending.{sends}
 use Rattle.keying.specs.Moves.{keysTold}
 use Rattle.keying.proofs.Good.{queued-short}

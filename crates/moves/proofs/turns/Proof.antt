@@ -9,8 +9,8 @@ use lib.ListN.{length}
 use Rattle.queue.proofs.Meaning.{tidy-short}
 use Rattle.record.specs.declared.Keys.{Keys}
 use Rattle.record.specs.Apart.{keysWith}
-use Rattle.record.specs.Range.{goodKeys}
-use Rattle.record.proofs.Ranges.{good-keys-queue}
+use Rattle.range.specs.Range.{goodKeys}
+use Rattle.range.proofs.Ranges.{good-keys-queue}
 use Rattle.keying.specs.Moves.{keysTold, turnsTo}
 use Rattle.keying.proofs.Changes.{told-same}
 use Rattle.keying.proofs.Good.{turns-good}

@@ -2,7 +2,7 @@
 use borrow.Author.Needs.{needs}
 use Rattle.contacts.specs.Counts.{contacts}
 use Rattle.record.specs.Apart.{keysWith, dockWith}
-use Rattle.record.proofs.Ranges.{in-range-map, in-range-keys, in-range-mode}
+use Rattle.range.proofs.Ranges.{in-range-map, in-range-keys, in-range-mode}
 use Rattle.dock.proofs.Scanning.{counted-by-parts}
 use Rattle.scan.proofs.count.Statement.{statement}
 use Rattle.scan.proofs.count.Tie as tie

@@ -1,7 +1,7 @@
 -- `scan::repeat` meets its contract: its test is the definition's. Assumes nothing.
 use mathlib.Core.List.{[]}
 use Rattle.record.specs.Apart.{keysWith, dockWith}
-use Rattle.record.proofs.Ranges.{in-range-keys, in-range-mode}
+use Rattle.range.proofs.Ranges.{in-range-keys, in-range-mode}
 use Rattle.dock.proofs.Scanning.{repeated-when-quiet}
 use Rattle.scan.proofs.repeat.Statement.{statement}
 use Rattle.scan.proofs.repeat.Tie as tie

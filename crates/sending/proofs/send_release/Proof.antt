@@ -7,7 +7,7 @@ use Rattle.queue.specs.Queues.{queueWith}
 use Rattle.record.specs.Parts.{keys}
 use Rattle.record.specs.Held.{modifiersOf}
 use Rattle.queue.proofs.Meaning.{tidy-short}
-use Rattle.record.proofs.Ranges.{good-mode-set}
+use Rattle.range.proofs.Ranges.{good-mode-set}
 use Rattle.sending.specs.Sending.{numLock, sends}
 use Rattle.sending.proofs.Sent.{sequence-short, sequence-is}
 use Rattle.sending.proofs.Silence.{release-none, release-long, little-room, too-long, nothing-queued, no-room-marks, pushed-queues}

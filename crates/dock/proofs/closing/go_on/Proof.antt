@@ -1,7 +1,7 @@
 -- `dock::closing::go_on` meets its contract: an open handover hands keys over. Assumes nothing.
 use mathlib.Core.List.{[]}
 use Rattle.record.specs.Apart.{dockWith}
-use Rattle.record.proofs.Ranges.{in-range-keys, in-range-mode}
+use Rattle.range.proofs.Ranges.{in-range-keys, in-range-mode}
 use Rattle.keying.specs.Handover.{handedWith}
 use Rattle.dock.proofs.Handing.{handed-over-on}
 use Rattle.dock.proofs.closing.go_on.Statement.{statement}

@@ -4,7 +4,7 @@ use borrow.Author.Needs.{needs}
 use borrow.Author.Tests.{not-true, not-false}
 use Rattle.codes.specs.declared.Action.the-variants.{Repeat}
 use Rattle.record.specs.Apart.{keysWith}
-use Rattle.record.proofs.Ranges.{good-keys-repeating}
+use Rattle.range.proofs.Ranges.{good-keys-repeating}
 use Rattle.sending.specs.Sending.{sends}
 use Rattle.sending.proofs.Sent.{sequence-short}
 use Rattle.keying.proofs.Due.{repeats-none, repeats-later, repeats-no-more, repeats-lost, repeats-sent}

@@ -3,7 +3,7 @@ use mathlib.Core.List.{[]}
 use borrow.Author.Needs.{needs}
 use Rattle.contacts.specs.Counts.{contacts}
 use Rattle.record.specs.Apart.{dockWith}
-use Rattle.record.proofs.Ranges.{in-range-with-contacts}
+use Rattle.range.proofs.Ranges.{in-range-with-contacts}
 use Rattle.dock.proofs.InRange.{rest-in-range, broken-leaves-range, byte-leaves-range}
 use Rattle.dock.proofs.Framing.{frame-too-large, frame-broken, frame-byte}
 use Rattle.wire.proofs.frame.frame_in_place.Statement.{statement}

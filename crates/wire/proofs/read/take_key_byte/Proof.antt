@@ -2,7 +2,7 @@
 use mathlib.Core.List.{[]}
 use borrow.Author.Needs.{needs}
 use Rattle.record.specs.Apart.{dockWith}
-use Rattle.record.proofs.Ranges.{in-range-keys, good-keys-queue}
+use Rattle.range.proofs.Ranges.{in-range-keys, good-keys-queue}
 use Rattle.dock.proofs.InRange.{key-byte-leaves-range}
 use Rattle.dock.proofs.Reading.{oldest-in-front, key-byte-given}
 use Rattle.wire.proofs.read.take_key_byte.Statement.{statement}

@@ -2,7 +2,7 @@
 use mathlib.Core.List.{[]}
 use borrow.Author.Needs.{needs}
 use Rattle.record.specs.Apart.{dockWith}
-use Rattle.record.proofs.Ranges.{in-range-replies}
+use Rattle.range.proofs.Ranges.{in-range-replies}
 use Rattle.dock.proofs.InRange.{reply-leaves-range}
 use Rattle.dock.proofs.Reading.{oldest-reply-in-front, reply-given}
 use Rattle.wire.proofs.read.take_reply.Statement.{statement}

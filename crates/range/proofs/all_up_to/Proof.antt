@@ -1,4 +1,4 @@
--- `record::range::all_up_to` meets its contract. The loop's invariant: no entry is over the limit if none so far was and none from
+-- `range::all_up_to` meets its contract. The loop's invariant: no entry is over the limit if none so far was and none from
 -- i on is. The measure is what is left of the length. Assumes nothing.
 use Prim.Native.Nat.{_-_}
 use mathlib.Core.Path.{_≡_, refl}
@@ -8,8 +8,8 @@ use lib.ListN.{length, drop}
 use Rattle.basics.specs.Choice.{both}
 use Rattle.basics.specs.Lists.{allUpTo}
 use Rattle.basics.proofs.Limits.{up-to-over, up-to-within, up-to-end}
-use Rattle.record.proofs.range.all_up_to.Statement.{statement}
-use Rattle.record.proofs.range.all_up_to.Tie as tie
+use Rattle.range.proofs.all_up_to.Statement.{statement}
+use Rattle.range.proofs.all_up_to.Tie as tie
 
 abbrev Inv-loop : tie.InvT-loop
 Inv-loop limit list good₀ i₀ good i = allUpTo limit list ≡ both good (allUpTo limit (drop i list))

@@ -8,9 +8,9 @@ use Rattle.keys.specs.Keys.{lastKey}
 use Rattle.replies.specs.declared.Replies.{Replies}
 use Rattle.queue.specs.Queues.{tidy, queueOf}
 use Rattle.replies.specs.Replies.{tidyReplies, repliesOf}
 use Rattle.record.specs.Power.{countUp, plainMap, freshWith, powerOn}
-use Rattle.record.specs.Range.{goodMode, goodKeys, inRange}
-use Rattle.record.proofs.Ranges.{in-range}
+use Rattle.range.specs.Range.{goodMode, goodKeys, inRange}
+use Rattle.range.proofs.Ranges.{in-range}
 
 pub fresh-in-range : (map : List ℕ) (replies : Replies) → allUpTo lastKey map ≡ true → tidyReplies replies ≡ true → inRange (freshWith map replies) ≡ true
 unfolding freshWith goodKeys goodMode tidy queueOf allUpTo

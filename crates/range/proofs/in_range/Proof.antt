@@ -1,8 +1,8 @@
--- `record::range::in_range` meets its contract: its tests are those of the definition, in their order. Assumes nothing.
+-- `range::in_range` meets its contract: its tests are those of the definition, in their order. Assumes nothing.
 use borrow.Author.Needs.{needs}
-use Rattle.record.proofs.Joining.{joined-range}
-use Rattle.record.proofs.range.in_range.Statement.{statement}
-use Rattle.record.proofs.range.in_range.Tie as tie
+use Rattle.range.proofs.Joining.{joined-range}
+use Rattle.range.proofs.in_range.Statement.{statement}
+use Rattle.range.proofs.in_range.Tie as tie
 
 all-up-to-requires : tie.Need-all-up-to-requires
 all-up-to-requires c κs = search needs

@@ -7,10 +7,10 @@ use Rattle.basics.specs.Lists.{allUpTo}
 use Rattle.keys.specs.Keys.{lastKey}
 use Rattle.queue.specs.Queues.{tidy}
 use Rattle.replies.specs.Replies.{tidyReplies}
 use Rattle.record.specs.declared.Mode.{Mode}
 use Rattle.record.specs.declared.Keys.{Keys}
 use Rattle.record.specs.declared.Dock.{Dock}
-use Rattle.record.specs.Range.{goodMode, goodKeys, takesValue, inRange}
+use Rattle.range.specs.Range.{goodMode, goodKeys, takesValue, inRange}
 
 pub joined-mode : (m : Mode) → (leb 1 (m .set) && leb (m .set) 3 && leb (m .rate) 127 && leb (m .indicators) 7) ≡ goodMode m
 unfolding goodMode

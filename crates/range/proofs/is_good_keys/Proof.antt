@@ -1,8 +1,8 @@
--- `record::range::is_good_keys` meets its contract: its tests are those of the definition, in their order. Assumes nothing.
+-- `range::is_good_keys` meets its contract: its tests are those of the definition, in their order. Assumes nothing.
 use borrow.Author.Needs.{needs}
-use Rattle.record.proofs.Joining.{joined-keys}
-use Rattle.record.proofs.range.is_good_keys.Statement.{statement}
-use Rattle.record.proofs.range.is_good_keys.Tie as tie
+use Rattle.range.proofs.Joining.{joined-keys}
+use Rattle.range.proofs.is_good_keys.Statement.{statement}
+use Rattle.range.proofs.is_good_keys.Tie as tie
 
 is-tidy-requires : tie.Need-is-tidy-requires
 is-tidy-requires c κs = search needs

@@ -1,11 +1,11 @@
-// Is every part of a record in its range. The loops keep a flag and run to their ends, so that the compiler takes sixteen entries at a time;
+// Is every part of a record in its range (docs/RECORD.md). The loops keep a flag and run to their ends, so that the compiler takes sixteen entries at a time;
 // the tests are joined by `&` and `|`, so that there is one way through.
-use crate::Dock;
-use crate::Keys;
-use crate::Mode;
+use record::Dock;
+use record::Keys;
+use record::Mode;
 ghost use mathlib.Core.Path.{_≡_};
 ghost use Rattle.basics.specs.Lists.{allUpTo};
-ghost use Rattle.record.specs.Range.{goodMode, goodKeys, takesValue, inRange};
+ghost use Rattle.range.specs.Range.{goodMode, goodKeys, takesValue, inRange};
 
 // No entry is over a limit.
 pub fn all_up_to(limit: u8, list: &[u8]) -> bool

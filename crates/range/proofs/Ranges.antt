@@ -12,12 +12,12 @@ use Rattle.queue.specs.declared.Queue.{Queue}
 use Rattle.replies.specs.declared.Replies.{Replies}
 use Rattle.queue.specs.Queues.{tidy}
 use Rattle.replies.specs.Replies.{tidyReplies}
 use Rattle.record.specs.declared.Mode.{Mode}
 use Rattle.record.specs.declared.Keys.{Keys}
 use Rattle.record.specs.declared.Dock.{Dock}
-use Rattle.record.specs.Range.{goodMode, goodKeys, goodWaiting, inRange}
+use Rattle.range.specs.Range.{goodMode, goodKeys, goodWaiting, inRange}
 use Rattle.record.specs.Parts.{withMap, withContacts, withKeys, withTypes, withMode, withReplies, withScanning, withWaiting, withHandover, withGiven}
 use Rattle.record.specs.Parts.{withQueue, withRepeat}
 
 -- The mode.
 module _ (m : Mode) (h : goodMode m ≡ true) where
