@@ -25,7 +25,7 @@ use Rattle.agreement.proofs.Ending.{enough-reads}
 use Rattle.agreement.proofs.ThirdDemand.{third-demand}
 
 -- Calls and then more calls.
-pub after-both : (calls more : List Call) (w : World) → afterCalls w (calls ++ more) ≡ afterCalls (afterCalls w calls) more
+after-both : (calls more : List Call) (w : World) → afterCalls w (calls ++ more) ≡ afterCalls (afterCalls w calls) more
 unfolding afterCalls
 after-both [] more w = refl
 after-both (call ∷ calls) more w = after-both calls more (next w call)

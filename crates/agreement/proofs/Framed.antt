@@ -86,7 +86,7 @@ module _ (d : Dock) (scans : List (List ℕ)) (r : IsReady d scans) (byte : ℕ)
       r
 
   -- Any byte.
-  pub took-ready : IsReady (tookByte byte d) (pick (eqb byte 0xff) [] scans)
+  took-ready : IsReady (tookByte byte d) (pick (eqb byte 0xff) [] scans)
   unfolding tookByte commanded obeyed Fine
   took-ready = go (eqb byte 0xff) refl
     where

@@ -66,7 +66,7 @@ pub at-once : (map : List ℕ) → length map ≡ 144 → hasDouble map ≡ fals
 at-once map long single p q hp hq same some = one-place map single p q (omega arith) (omega arith) same some
 
 -- Contacts of which no scan says anything are open.
-pub all-open : (contacts : Contacts) (scans : List (List ℕ)) → contacts ≡ countedAll unseen scans → scans ≡ []
+all-open : (contacts : Contacts) (scans : List (List ℕ)) → contacts ≡ countedAll unseen scans → scans ≡ []
     → (position : ℕ) → position < 144 → contact (contacts .closed) position ≡ 0
 unfolding countedAll
 all-open contacts scans seen none position h =

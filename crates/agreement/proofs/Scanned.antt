@@ -34,7 +34,7 @@ use Rattle.agreement.proofs.Following.{Follows, none-wait, repeats-with
 use Rattle.agreement.proofs.Ready.{Ready, IsReady, Settled, same-flags, at-once, shut-settled, closing-settled}
 
 -- Scans are listened to only while no handover is open.
-pub listening-shut : (d : Dock) → listening d ≡ true → d .handover ≡ false
+listening-shut : (d : Dock) → listening d ≡ true → d .handover ≡ false
 unfolding listening
 listening-shut d h =
     not-true (d .handover)

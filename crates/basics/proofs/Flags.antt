@@ -8,7 +8,7 @@ pub both-false : (b : Bool) → both b false ≡ false
 both-false true = refl
 both-false false = refl
 
-pub both-true : (b : Bool) → both b true ≡ b
+both-true : (b : Bool) → both b true ≡ b
 both-true true = refl
 both-true false = refl
 

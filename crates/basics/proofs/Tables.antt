@@ -1,5 +1,5 @@
 -- What is computed once over a whole list holds at each of its places: laws for any list and any fact. Assumes nothing.
-use mathlib.Core.Path.{_≡_, ap}
+use mathlib.Core.Path.{_≡_, refl, ap}
 use mathlib.Core.Bool.{Bool, true, false}
 use mathlib.Core.List.{List, [], _∷_}
 use Prim.Native.Nat.{ℕ, zero, suc, _+_, _<_}
@@ -31,6 +31,11 @@ at-each-place f g d (x ∷ xs) i e (suc k) h =
 abbrev pub allBelow : (ℕ → Bool) → ℕ → Bool
 allBelow f zero = true
 allBelow f (suc n) = both (f n) (allBelow f n)
+
+-- A test that was computed: it is true, and so are both of two.
+pub passed : (b : Bool) → T b → b ≡ true
+passed true t = refl
+passed false t = absurd t
 
 pub both-left : (a b : Bool) → T (both a b) → T a
 both-left true b t = tt

@@ -9,12 +9,12 @@ use lib.Seq.{append-snoc, set-append-seam, take-append-seam}
 use Rattle.codes.specs.declared.Sequence.{Sequence}
 use Rattle.codes.specs.Sequences.{holding, adding}
 
-pub adding-length : (s : Sequence) (l : List ℕ) → adding s l .length ≡ s .length + length l
+adding-length : (s : Sequence) (l : List ℕ) → adding s l .length ≡ s .length + length l
 unfolding adding
 adding-length s [] = sym (add-zero (s .length))
 adding-length s (b ∷ l) = adding-length _ l ∙ omega arith
 
-pub adding-append : (s : Sequence) (l m : List ℕ) → adding (adding s l) m ≡ adding s (l ++ m)
+adding-append : (s : Sequence) (l m : List ℕ) → adding (adding s l) m ≡ adding s (l ++ m)
 unfolding adding
 adding-append s [] m = refl
 adding-append s (b ∷ l) m = adding-append _ l m
@@ -25,7 +25,7 @@ one-held l b h =
     let free : 8 - length l ≡ suc (8 - length (l ++ b ∷ [])) = rw length-append (omega arith) in
     rw (free, set-append-seam, length-append, append-snoc)
 
-pub adding-holding : (l m : List ℕ) → length l + length m ≤ 8 → adding (holding l) m ≡ holding (l ++ m)
+adding-holding : (l m : List ℕ) → length l + length m ≤ 8 → adding (holding l) m ≡ holding (l ++ m)
 unfolding adding
 adding-holding l [] h = rw append-nil
 adding-holding l (b ∷ m) h =

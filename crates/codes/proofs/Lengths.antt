@@ -42,7 +42,7 @@ before-short set ShiftBoth = rw length-append (omega (arith, break-short set (le
 before-short set NumLock = omega (arith, make-short (leftWrap set))
 before-short set Other = omega arith
 
-pub after-short : (set : ℕ) (form : Form) → length (after set form) ≤ 4
+after-short : (set : ℕ) (form : Form) → length (after set form) ≤ 4
 unfolding after
 after-short set Plain = omega arith
 after-short set ShiftLeft = omega (arith, make-short (leftWrap set))
@@ -66,7 +66,7 @@ make-behind-short set code wrapping = rw length-append (omega (arith, before-sho
 pub release-short : (set code : ℕ) (form : Form) → length (breakOf set code ++ after set form) ≤ 8
 release-short set code form = rw length-append (omega (arith, break-short set code, after-short set form))
 
-pub bytes-short : (set key : ℕ) (action : Action) (type : ℕ) (form : Form) → length (bytesOf set key action type form) ≤ 8
+bytes-short : (set key : ℕ) (action : Action) (type : ℕ) (form : Form) → length (bytesOf set key action type form) ≤ 8
 unfolding bytesOf
 bytes-short set key Press type form =
     by-cases (Short 8) (pausesAtOnce set key) _ _ (λ e. pause-short set form (at-once-set set key e))

@@ -48,7 +48,7 @@ bit-positive (suc r) = omega (arith, bit-positive r, pow-suc 2 r)
 
 -- A row left at its bit is 0 just where the row is, and turns as the row does.
 module _ (row count r : ℕ) (h : row < 2) where
-  pub bit-none : eqb (row * 2 ^ r) 0 ≡ eqb row 0
+  bit-none : eqb (row * 2 ^ r) 0 ≡ eqb row 0
   bit-none = go row h
     where
       go : (x : ℕ) → x < 2 → eqb (x * 2 ^ r) 0 ≡ eqb x 0

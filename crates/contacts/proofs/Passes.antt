@@ -9,17 +9,17 @@ use native.Mathlib.Omega.{arith}
 use borrow.Author.Tests.{eq-eqb}
 use lib.ListN.{length, getD, set}
 use lib.Seq.{set-getD}
-use Rattle.basics.specs.Lists.{mapFrom, allUpTo}
+use Rattle.basics.specs.Lists.{mapFrom, allUpTo, same}
 use Rattle.basics.proofs.Flags.{left-of-both, right-of-both}
 use Rattle.basics.proofs.Limits.{up-to-at}
 use Rattle.basics.proofs.Maps.{mapFrom-is}
+use Rattle.basics.proofs.Sameness.{same-is}
 use Rattle.contacts.specs.declared.Contacts.{Contacts}
-use Rattle.contacts.specs.Scans.{contactIn, contact, same}
+use Rattle.contacts.specs.Scans.{contactIn, contact}
 use Rattle.contacts.specs.Counts.{nextCount, nextClosed, packed, countAt, closedAt, countedOf, atRest, renewed, columnCounts, columnClosed}
 use Rattle.contacts.proofs.Pointwise.{contact-at}
 use Rattle.contacts.proofs.Bytes.{packed-rows, packed-same}
 use Rattle.contacts.proofs.Renewals.{renewed-later, renewed-next, renewed-join, renewed-all}
-use Rattle.contacts.proofs.Sameness.{same-is}
 
 -- A contact that is seen as it counts.
 same-count : (seen closed count : ℕ) → seen ≡ closed → 0 ≡ nextCount seen closed count

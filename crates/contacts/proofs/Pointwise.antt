@@ -54,7 +54,7 @@ module _ (k : Contacts) (scan : List ℕ) where
   unfolding countedOf
   counts-length = length-mapFrom (λ position count. countAt k scan position) 0 (k .counts)
 
-  pub closed-at-small : (position : ℕ) → closedAt k scan position < 2
+  closed-at-small : (position : ℕ) → closedAt k scan position < 2
   closed-at-small position =
       next-closed-small (contact scan position) (contact (k .closed) position) (getD (k .counts) position 0)
       (contact-small scan position) (contact-small (k .closed) position)

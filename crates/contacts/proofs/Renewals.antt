@@ -17,7 +17,7 @@ module _ (new : ℕ → ℕ → ℕ) (first : ℕ) where
   unfolding renewed
   renewed-none list = refl
 
-  pub length-renewed : (n : ℕ) (list : List ℕ) → length (renewed new first n list) ≡ length list
+  length-renewed : (n : ℕ) (list : List ℕ) → length (renewed new first n list) ≡ length list
   unfolding renewed
   length-renewed zero list = refl
   length-renewed (suc n) list = simp length-set (length-renewed n list)
@@ -31,7 +31,7 @@ module _ (new : ℕ → ℕ → ℕ) (first : ℕ) where
       ∙ renewed-later n list p (omega arith)
 
   -- Each of them is new.
-  pub renewed-at : (n : ℕ) (list : List ℕ) (i : ℕ) → i < n → first + n ≤ length list
+  renewed-at : (n : ℕ) (list : List ℕ) (i : ℕ) → i < n → first + n ≤ length list
       → getD (renewed new first n list) (first + i) 0 ≡ new i (getD list (first + i) 0)
   unfolding renewed
   renewed-at zero list i h l = omega arith

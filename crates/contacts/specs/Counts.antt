@@ -6,9 +6,9 @@ use mathlib.Core.List.{List}
 use lib.Dec.{ltb, eqb}
 use lib.ListN.{getD, set, replicate}
 use Rattle.basics.specs.Choice.{pick, both}
-use Rattle.basics.specs.Lists.{mapFrom, allUpTo}
+use Rattle.basics.specs.Lists.{mapFrom, allUpTo, same}
 use Rattle.contacts.specs.declared.Contacts.{Contacts}
-use Rattle.contacts.specs.Scans.{contactIn, contact, same}
+use Rattle.contacts.specs.Scans.{contactIn, contact}
 
 -- Contacts by their two parts.
 abbrev pub contacts : List ℕ → List ℕ → Contacts

@@ -1,10 +1,7 @@
 -- Scans (docs/RULES.md, section 5): 18 bytes, a column each; bit r of column c is the contact at position 8 c + r. Assumes nothing.
 use Prim.Native.Nat.{ℕ, _/_, _%_, _^_}
-use mathlib.Core.Bool.{Bool, true, false}
-use mathlib.Core.List.{List, [], _∷_}
-use lib.Dec.{eqb}
+use mathlib.Core.List.{List}
 use lib.ListN.{getD}
-use Rattle.basics.specs.Choice.{both}
 
 -- The contact in a row of a column: 1 closed, 0 open.
 abbrev pub contactIn : ℕ → ℕ → ℕ
@@ -13,10 +10,3 @@ contactIn column row = column / 2 ^ row % 2
 -- The contact at a position.
 unfoldable pub contact : List ℕ → ℕ → ℕ
 contact scan position = contactIn (getD scan (position / 8) 0) (position % 8)
-
--- Two scans show the same.
-unfoldable pub same : List ℕ → List ℕ → Bool
-same [] [] = true
-same [] (y ∷ ys) = false
-same (x ∷ xs) [] = false
-same (x ∷ xs) (y ∷ ys) = both (eqb x y) (same xs ys)

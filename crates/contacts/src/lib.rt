@@ -2,8 +2,7 @@
 ghost use mathlib.Core.Path.{_≡_};
 ghost use Prim.Native.Nat.{_*_, _<_};
 ghost use lib.ListN.{length};
-ghost use Rattle.basics.specs.Lists.{allUpTo};
-ghost use Rattle.contacts.specs.Scans.{same};
+ghost use Rattle.basics.specs.Lists.{allUpTo, same};
 ghost use Rattle.contacts.specs.Counts.{contacts, nextCount, nextClosed, renewed, columnCounts, columnClosed, atRest, countedOf};
 
 // A byte for each column, and one for each position.

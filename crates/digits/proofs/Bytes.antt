@@ -9,7 +9,7 @@ use lib.ListN.{length, getD, set, replicate, length-replicate, drop-of-length-le
 use lib.Seq.{paste, paste-zero, paste-suc, take-all}
 use Rattle.digits.specs.Digits.{byteAt, bytesFrom}
 
-pub length-bytes : (line : List ℕ) (i n : ℕ) → length (bytesFrom line i n) ≡ n
+length-bytes : (line : List ℕ) (i n : ℕ) → length (bytesFrom line i n) ≡ n
 unfolding bytesFrom
 length-bytes line i zero = refl
 length-bytes line i (suc n) = ap suc (length-bytes line (suc i) n)
@@ -20,7 +20,7 @@ bytes-at-from line i zero k h = absurd (not-suc-le-zero h)
 bytes-at-from line i (suc n) zero h = rw add-zero
 bytes-at-from line i (suc n) (suc k) h = rw (add-suc, ← suc-add) (bytes-at-from line (suc i) n k (le-of-suc-le-suc h))
 
-pub bytes-at : (line : List ℕ) (n k : ℕ) → k < n → getD (bytesFrom line 0 n) k 0 ≡ byteAt line k
+bytes-at : (line : List ℕ) (n k : ℕ) → k < n → getD (bytesFrom line 0 n) k 0 ≡ byteAt line k
 bytes-at line n k h = bytes-at-from line 0 n k h ∙ ap (byteAt line) (zero-add k)
 
 -- An array of n zeros with its first i entries replaced by the line's first i bytes.

@@ -16,7 +16,7 @@ use Rattle.basics.proofs.Flags.{flag-tells, left-of-both, right-of-both}
 use Rattle.digits.specs.Digits.{isDigit, valueOf, allDigits}
 
 -- A digit is one of the characters 48 to 57, or one of 65 to 70.
-pub digit-limits : (c : ℕ) → isDigit c ≡ true → ((48 ≤ c) × (c ≤ 57)) ⊎ ((65 ≤ c) × (c ≤ 70))
+digit-limits : (c : ℕ) → isDigit c ≡ true → ((48 ≤ c) × (c ≤ 57)) ⊎ ((65 ≤ c) × (c ≤ 70))
 digit-limits c d = go (between 48 57 c) refl d
   where
     go : (t : Bool) → between 48 57 c ≡ t → either t (between 65 70 c) ≡ true → ((48 ≤ c) × (c ≤ 57)) ⊎ ((65 ≤ c) × (c ≤ 70))
@@ -26,7 +26,7 @@ digit-limits c d = go (between 48 57 c) refl d
 pub digit-from-48 : (c : ℕ) → isDigit c ≡ true → 48 ≤ c
 digit-from-48 c d = ⊎-elim (λ w. w .0) (λ w. omega arith) (digit-limits c d)
 
-pub value-below-16 : (c : ℕ) → isDigit c ≡ true → valueOf c < 16
+value-below-16 : (c : ℕ) → isDigit c ≡ true → valueOf c < 16
 value-below-16 c d =
     ⊎-elim (λ w. rw (le-leb c 57 (w .1)) (omega arith)) (λ w. rw (lt-leb c 57 (omega arith)) (omega arith)) (digit-limits c d)
 

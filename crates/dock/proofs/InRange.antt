@@ -58,7 +58,7 @@ pub apart-in-range : (d : Dock) (r : Rest) (good : Bool) → r ≡ restOf d → 
 apart-in-range d r good e i t = rw (e, ← i) t
 
 -- The end of every accepted call.
-pub closing-in-range : (d : Dock) → inRange d ≡ true → inRange (closing d) ≡ true
+closing-in-range : (d : Dock) → inRange d ≡ true → inRange (closing d) ≡ true
 unfolding closing
 closing-in-range d h =
     let left = handedOver (d .keys) (d .mode) (d .types) in
@@ -67,7 +67,7 @@ closing-in-range d h =
     picked InRange (d .handover) _ _ (in-range-with-handover (withKeys d (left .keys)) kept (left .unfinished)) h
 
 -- A scan.
-pub counting-in-range : (d : Dock) (scan : List ℕ) → inRange d ≡ true → inRange (counting d scan) ≡ true
+counting-in-range : (d : Dock) (scan : List ℕ) → inRange d ≡ true → inRange (counting d scan) ≡ true
 unfolding counting
 counting-in-range d scan h =
     let contacts = countedOf (d .contacts) scan in
@@ -76,15 +76,15 @@ counting-in-range d scan h =
     (d .keys) (in-range-keys d h) in
     in-range-with-keys (withContacts d contacts) (in-range-with-contacts d h contacts) _ good
 
-pub changed-in-range : (d : Dock) (scan : List ℕ) → inRange d ≡ true → inRange (changed d scan) ≡ true
+changed-in-range : (d : Dock) (scan : List ℕ) → inRange d ≡ true → inRange (changed d scan) ≡ true
 unfolding changed
 changed-in-range d scan h = picked InRange (isPhantom scan) _ _ h (counting-in-range d scan h)
 
-pub repeating-in-range : (d : Dock) → inRange d ≡ true → inRange (repeating d) ≡ true
+repeating-in-range : (d : Dock) → inRange d ≡ true → inRange (repeating d) ≡ true
 unfolding repeating
 repeating-in-range d h = in-range-with-keys d h _ (repeated-good (d .keys) (d .mode) (d .types) (quiet d) (in-range-keys d h))
 
-pub ticking-in-range : (d : Dock) → inRange d ≡ true → inRange (withKeys d (ticked (d .keys))) ≡ true
+ticking-in-range : (d : Dock) → inRange d ≡ true → inRange (withKeys d (ticked (d .keys))) ≡ true
 ticking-in-range d h = in-range-with-keys d h (ticked (d .keys)) (ticked-good (d .keys) (in-range-keys d h))
 
 -- On the way, as the code has it: with the ticked keys, and after the scan's changes.
@@ -112,10 +112,10 @@ scan-in-range d scan h =
     picked Kept (inRange d) _ _ (picked Kept (eqb (length scan) 18) _ _ (scanned-in-range d scan h) h) h
 
 -- A read.
-pub reply-in-range : (d : Dock) → inRange d ≡ true → inRange (withReplies d (repliesBehind (d .replies))) ≡ true
+reply-in-range : (d : Dock) → inRange d ≡ true → inRange (withReplies d (repliesBehind (d .replies))) ≡ true
 reply-in-range d h = in-range-with-replies d h _ (popped-replies-tidy (d .replies) (in-range-replies d h))
 
-pub key-byte-in-range : (d : Dock) → inRange d ≡ true
+key-byte-in-range : (d : Dock) → inRange d ≡ true
     → inRange (withKeys d (withQueue (d .keys) (behindIt (d .keys .queue)))) ≡ true
 key-byte-in-range d h =
     let good = in-range-keys d h in
@@ -165,7 +165,7 @@ opened-in-range d map h g =
     let keys = good-keys-with-repeat (d .keys) (in-range-keys d h) 0 0 (omega arith) (omega arith) in
     in-range (opened d map) g keys (in-range-mode d h) (in-range-replies d h) (in-range-waiting d h)
 
-pub remapped-in-range : (d : Dock) (map : List ℕ) → inRange d ≡ true → allUpTo lastKey map ≡ true → inRange (remapped d map) ≡ true
+remapped-in-range : (d : Dock) (map : List ℕ) → inRange d ≡ true → allUpTo lastKey map ≡ true → inRange (remapped d map) ≡ true
 unfolding remapped
 remapped-in-range d map h g = picked InRange (d .handover) _ _ (in-range-with-map d h map g) (opened-in-range d map h g)
 

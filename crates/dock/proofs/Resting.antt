@@ -19,10 +19,10 @@ use Rattle.record.specs.Parts.{withContacts, withKeys}
 use Rattle.dock.specs.Scan.{counting, changed}
 
 -- No contact turned, so no key moves.
-turns-none : (n : ℕ) (m : Mode) (types map was : List ℕ) (k : Keys) → turnsTo n m types map was was k ≡ k
+nothing-turns : (n : ℕ) (m : Mode) (types map was : List ℕ) (k : Keys) → turnsTo n m types map was was k ≡ k
 unfolding turnsTo turned
-turns-none zero m types map was k = refl
-turns-none (suc p) m types map was k = rw (eq-eqb (contact was p) (contact was p) refl) (turns-none p m types map was k)
+nothing-turns zero m types map was k = refl
+nothing-turns (suc p) m types map was k = rw (eq-eqb (contact was p) (contact was p) refl) (nothing-turns p m types map was k)
 
 -- Contacts that stay leave the dock as it is, phantom or not.
 changed-still : (d : Dock) (scan : List ℕ) → countedOf (d .contacts) scan ≡ d .contacts → changed d scan ≡ d
@@ -31,7 +31,7 @@ changed-still d scan e = go (isPhantom scan)
   where
     by : (after : Contacts) → after ≡ d .contacts
         → withKeys (withContacts d after) (turnsTo 144 (d .mode) (d .types) (d .map) (d .contacts .closed) (after .closed) (d .keys)) ≡ d
-    by after f = rw (f, turns-none 144 (d .mode) (d .types) (d .map) (d .contacts .closed) (d .keys))
+    by after f = rw (f, nothing-turns 144 (d .mode) (d .types) (d .map) (d .contacts .closed) (d .keys))
 
     go : (phantom : Bool) → pick phantom d (counting d scan) ≡ d
     go true = refl

@@ -13,27 +13,27 @@ use Rattle.frames.specs.Frames.{parity, packedOf, bit, byteOf, whole, un
 use Rattle.frames.proofs.Packing.{parity-small}
 
 module _ (b : ℕ) (h : b < 256) where
-  pub frame-small : packedOf b ≤ 2047
+  frame-small : packedOf b ≤ 2047
   unfolding packedOf
   frame-small = omega (arith, parity-small b)
 
-  pub start-bit : bit (packedOf b) 0 ≡ 0
+  start-bit : bit (packedOf b) 0 ≡ 0
   unfolding packedOf
   start-bit = omega (arith, parity-small b)
 
-  pub byte-bits : byteOf (packedOf b) ≡ b
+  byte-bits : byteOf (packedOf b) ≡ b
   unfolding packedOf
   byte-bits = omega (arith, parity-small b)
 
-  pub parity-bit : bit (packedOf b) 9 ≡ parity b
+  parity-bit : bit (packedOf b) 9 ≡ parity b
   unfolding packedOf
   parity-bit = omega (arith, parity-small b)
 
-  pub stop-bit : bit (packedOf b) 10 ≡ 1
+  stop-bit : bit (packedOf b) 10 ≡ 1
   unfolding packedOf
   stop-bit = omega (arith, parity-small b)
 
-  pub packed-is-whole : whole (packedOf b) ≡ true
+  packed-is-whole : whole (packedOf b) ≡ true
   unfolding whole
   packed-is-whole = simp (byte-bits, eq-eqb _ _ start-bit, eq-eqb _ _ parity-bit, eq-eqb _ _ stop-bit)
 

@@ -1,6 +1,6 @@
 -- A record in its range stays in its range, whatever byte the host sends. Assumes nothing.
 use mathlib.Core.Path.{_≡_, refl}
-use mathlib.Core.Bool.{Bool, true, false}
+use mathlib.Core.Bool.{Bool, true, false, not}
 use mathlib.Core.List.{[], _∷_}
 use Prim.Native.Nat.{ℕ, _-_, _≤_}
 use native.Mathlib.Omega.{arith}
@@ -9,7 +9,6 @@ use lib.Dec.{eqb, leb}
 use Rattle.basics.specs.Choice.{pick, both, between}
 use Rattle.basics.proofs.Cases.{by-cases, picked}
 use Rattle.basics.proofs.Flags.{left-of-both, right-of-both}
-use Rattle.keys.specs.Keys.{lastKey}
 use Rattle.lookup.specs.Lookup.{keyWith}
 use Rattle.record.specs.declared.Dock.{Dock}
 use Rattle.range.specs.Range.{inRange}
@@ -34,7 +33,7 @@ module _ (d : Dock) (h : inRange d ≡ true) where
   valued-in-range command value r = go (keyWith 3 value) (eqb command 0xed) (eqb command 0xf0) (eqb command 0xf3) r
     where
       go : (key : ℕ) (a b c : Bool)
-          → pick a (leb value 7) (pick b (between 1 3 value) (pick c (leb value 127) (both (between 0xfb 0xfd command) (between 1 lastKey key)))) ≡ true
+          → pick a (leb value 7) (pick b (between 1 3 value) (pick c (leb value 127) (both (between 0xfb 0xfd command) (not (eqb key 0))))) ≡ true
           → inRange (pick a (withIndicators value d) (pick b (withSet value d) (pick c (withRate value d) (withType key (command - 0xfb) d)))) ≡ true
       go key true b c e = indicators-in-range value (leb-true value 7 e)
       go key false true c e =

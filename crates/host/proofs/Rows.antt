@@ -1,13 +1,13 @@
 -- Which values fall into the row of the definitions that is no single command, and what the code has to show of a row. Assumes nothing.
 use mathlib.Core.Path.{_≡_, sym, _∙_}
-use mathlib.Core.Bool.{Bool, true, false}
+use mathlib.Core.Bool.{Bool, true, false, not}
 use mathlib.Core.List.{[], _∷_}
 use Prim.Native.Nat.{ℕ, _-_, _≤_, _<_}
 use native.Mathlib.Omega.{arith}
 use borrow.Author.Tests.{leb-true, le-leb, lt-leb, ne-eqb}
+use lib.Dec.{eqb}
 use Rattle.basics.specs.Choice.{both, between}
 use Rattle.basics.proofs.Flags.{left-of-both, right-of-both}
-use Rattle.keys.specs.Keys.{lastKey}
 use Rattle.lookup.specs.Lookup.{keyWith}
 use Rattle.record.specs.declared.Dock.{Dock}
 use Rattle.record.specs.Parts.{withWaiting}
@@ -17,11 +17,11 @@ use Rattle.host.specs.Values.{withType, rightValue, valued, tookValue, t
 -- A value.
 module _ (command value : ℕ) where
   module _ (a : command ≡ 0xed → ⊥) (b : command ≡ 0xf0 → ⊥) (c : command ≡ 0xf3 → ⊥) where
-    key-type-row : rightValue command value ≡ both (between 0xfb 0xfd command) (between 1 lastKey (keyWith 3 value))
+    key-type-row : rightValue command value ≡ both (between 0xfb 0xfd command) (not (eqb (keyWith 3 value) 0))
     unfolding rightValue
     key-type-row = rw (ne-eqb command 0xed a, ne-eqb command 0xf0 b, ne-eqb command 0xf3 c)
 
-    pub right-code : 0xfb ≤ command → command ≤ 0xfd → between 1 lastKey (keyWith 3 value) ≡ rightValue command value
+    pub right-code : 0xfb ≤ command → command ≤ 0xfd → not (eqb (keyWith 3 value) 0) ≡ rightValue command value
     right-code h k = rw (key-type-row, le-leb 0xfb command h, le-leb command 0xfd k)
 
     pub right-none-below : command < 0xfb → false ≡ rightValue command value
@@ -35,18 +35,13 @@ module _ (command value : ℕ) where
     valued-type d key e = rw (ne-eqb command 0xed a, ne-eqb command 0xf0 b, ne-eqb command 0xf3 c, e)
 
     module _ (r : rightValue command value ≡ true) where
-      right-row : both (between 0xfb 0xfd command) (between 1 lastKey (keyWith 3 value)) ≡ true
+      right-row : both (between 0xfb 0xfd command) (not (eqb (keyWith 3 value) 0)) ≡ true
       right-row = sym key-type-row ∙ r
 
       pub right-command : (0xfb ≤ command) × (command ≤ 0xfd)
       right-command =
           let h = right-row in
           (leb-true 0xfb command (search (left-of-both, right-of-both)), leb-true command 0xfd (search (left-of-both, right-of-both)))
-
-      pub right-key : keyWith 3 value ≤ lastKey
-      right-key =
-          let h = right-row in
-          leb-true (keyWith 3 value) lastKey (search (left-of-both, right-of-both))
 
 -- A byte below ED.
 module _ (byte : ℕ) (d : Dock) (b : Bool) (e : b ≡ rightValue (d .waiting) byte) where

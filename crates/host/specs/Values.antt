@@ -1,11 +1,10 @@
 -- The values that commands wait for, and any byte from the host (docs/RULES.md, section 11). Assumes nothing.
 use Prim.Native.Nat.{ℕ, _-_}
-use mathlib.Core.Bool.{Bool}
+use mathlib.Core.Bool.{Bool, not}
 use mathlib.Core.List.{[], _∷_}
 use lib.Dec.{eqb, leb}
 use lib.ListN.{set}
 use Rattle.basics.specs.Choice.{pick, both, between}
-use Rattle.keys.specs.Keys.{lastKey}
 use Rattle.lookup.specs.Lookup.{keyWith}
 use Rattle.record.specs.declared.Dock.{Dock}
 use Rattle.record.specs.Parts.{withTypes, withMode, withWaiting}
@@ -24,7 +23,7 @@ rightValue command value =
     pick (eqb command 0xed) (leb value 7)
     (pick (eqb command 0xf0) (between 1 3 value)
     (pick (eqb command 0xf3) (leb value 127)
-    (both (between 0xfb 0xfd command) (between 1 lastKey (keyWith 3 value)))))
+    (both (between 0xfb 0xfd command) (not (eqb (keyWith 3 value) 0)))))
 
 -- What the value does.
 unfoldable pub valued : ℕ → ℕ → Dock → Dock

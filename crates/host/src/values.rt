@@ -15,10 +15,7 @@ fn is_right(command: u8, value: u8) -> bool
         0xed => value <= 7,
         0xf0 => (1 <= value) & (value <= 3),
         0xf3 => value <= 127,
-        0xfb..=0xfd => {
-            let key = lookup::in_set3(value);
-            (1 <= key) & (key <= keys::LAST_KEY)
-        }
+        0xfb..=0xfd => lookup::in_set3(value) != 0,
         _ => false,
     }
 }

@@ -16,13 +16,13 @@ use Rattle.record.specs.declared.Keys.{Keys}
 use Rattle.record.specs.Parts.{keys}
 use Rattle.sending.specs.Sending.{sends, queuedOf}
 use Rattle.sending.proofs.Sent.{sequence-is}
-use Rattle.keying.specs.declared.Told.{Told}
+use Rattle.keying.specs.declared.OutgoingRest.{OutgoingRest}
 use Rattle.keying.specs.Repeat.{delayOf}
-use Rattle.keying.specs.Moves.{keysTold, pressed, releasedWith, released}
+use Rattle.keying.specs.Moves.{keysFrom, pressed, releasedWith, released}
 
 -- The same parts make the same keys.
-pub told-same : (held held′ bytes bytes′ : List ℕ) (t t′ : Told) → held ≡ held′ → bytes ≡ bytes′ → t ≡ t′ → keysTold held bytes t ≡ keysTold held′ bytes′ t′
-told-same held held′ bytes bytes′ t t′ e f g = rw (e, f, g)
+pub keys-from-same : (held held′ bytes bytes′ : List ℕ) (rest rest′ : OutgoingRest) → held ≡ held′ → bytes ≡ bytes′ → rest ≡ rest′ → keysFrom held bytes rest ≡ keysFrom held′ bytes′ rest′
+keys-from-same held held′ bytes bytes′ rest rest′ e f g = rw (e, f, g)
 
 module _ (k : Keys) (m : Mode) (type key : ℕ) where
   pub released-by-its-bytes : (s : Sequence) → s ≡ holding (sends k m type key Release) → releasedWith k m key (contents s) ≡ released k m type key
@@ -31,9 +31,9 @@ module _ (k : Keys) (m : Mode) (type key : ℕ) where
 
   module _ (q : Queue) (queue-is : q ≡ queuedOf (k .queue) m (sends k m type key Press))
       (may : Bool) (t : may ≡ mayRepeat (m .set) key type) where
-    pub pressed-repeats : may ≡ true → (delay : ℕ) → delay ≡ delayOf (m .rate) → keys (set (k .held) key 1) q key delay ≡ pressed k m type key
+    pub pressed-to-repeat : may ≡ true → (delay : ℕ) → delay ≡ delayOf (m .rate) → keys (set (k .held) key 1) q key delay ≡ pressed k m type key
     unfolding pressed
-    pressed-repeats y delay d = simp (sym t, y, d, queue-is)
+    pressed-to-repeat y delay d = simp (sym t, y, d, queue-is)
 
     pub pressed-once : may ≡ false → keys (set (k .held) key 1) q 0 0 ≡ pressed k m type key
     unfolding pressed

@@ -27,7 +27,7 @@ use Rattle.keying.specs.Handover.{handedFrom}
 use Rattle.keying.proofs.Kept.{handed-keeps, moved-keeps, turns-keep}
 
 -- A queue stays one, whatever is queued.
-pub queued-tidy : (q : Queue) (m : Mode) (bytes : List ℕ) → tidy q ≡ true → tidy (queuedOf q m bytes) ≡ true
+queued-tidy : (q : Queue) (m : Mode) (bytes : List ℕ) → tidy q ≡ true → tidy (queuedOf q m bytes) ≡ true
 unfolding queuedOf
 queued-tidy q m bytes t = pushed-tidy q t (markOf (m .set)) bytes
 
@@ -35,7 +35,7 @@ pub queued-short : (after q : Queue) (m : Mode) (bytes : List ℕ) → after ≡
 queued-short after q m bytes e t = tidy-short after (ap tidy e ∙ queued-tidy q m bytes t)
 
 -- No delay and no interval outlasts the countdown.
-pub delay-small : (rate : ℕ) → rate ≤ 127 → delayOf rate ≤ 240
+delay-small : (rate : ℕ) → rate ≤ 127 → delayOf rate ≤ 240
 unfolding delayOf
 delay-small rate h = omega arith
 
@@ -67,7 +67,7 @@ module _ (m : Mode) where
   handed-good = handed-keeps InRange m released-good
 
   module _ (h : goodMode m ≡ true) where
-    pub pressed-good : (k : Keys) (type key : ℕ) → key ≤ lastKey → goodKeys k ≡ true → goodKeys (pressed k m type key) ≡ true
+    pressed-good : (k : Keys) (type key : ℕ) → key ≤ lastKey → goodKeys k ≡ true → goodKeys (pressed k m type key) ≡ true
     unfolding pressed
     pressed-good k type key l g =
         let may = mayRepeat (m .set) key type in

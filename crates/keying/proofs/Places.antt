@@ -52,12 +52,12 @@ module _ (m : Mode) where
   turns-bytes = turns-keep (λ (k : Keys). length (k .queue .bytes) ≡ 16) m released-bytes (λ k type key h e. pressed-bytes k type key e)
 
   -- Both arrays.
-  pub pressed-places : (k : Keys) (type key : ℕ) → Places k → Places (pressed k m type key)
+  pressed-places : (k : Keys) (type key : ℕ) → Places k → Places (pressed k m type key)
   unfolding pressed
   pressed-places k type key p =
       record { flags = simp length-set (p .flags); bytes = pressed-bytes k type key (p .bytes) }
 
-  pub released-places : (k : Keys) (type key : ℕ) → Places k → Places (released k m type key)
+  released-places : (k : Keys) (type key : ℕ) → Places k → Places (released k m type key)
   unfolding released releasedWith
   released-places k type key p =
       record { flags = simp length-set (p .flags); bytes = released-bytes k type key (p .bytes) }

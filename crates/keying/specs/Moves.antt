@@ -13,12 +13,12 @@ use Rattle.record.specs.declared.Mode.{Mode}
 use Rattle.record.specs.declared.Keys.{Keys}
 use Rattle.record.specs.Parts.{keys}
 use Rattle.sending.specs.Sending.{sends, queuedOf}
-use Rattle.keying.specs.declared.Told.{Told}
+use Rattle.keying.specs.declared.OutgoingRest.{OutgoingRest}
 use Rattle.keying.specs.Repeat.{delayOf}
 
 -- The keys of these parts: the flags, the bytes of the queue, and the rest.
-abbrev pub keysTold : List ℕ → List ℕ → Told → Keys
-keysTold held bytes t = keys held (queueWith bytes (t .length)) (t .repeating) (t .countdown)
+abbrev pub keysFrom : List ℕ → List ℕ → OutgoingRest → Keys
+keysFrom held bytes rest = keys held (queueWith bytes (rest .length)) (rest .repeating) (rest .countdown)
 
 -- A key is pressed: it is held, its bytes are queued, and it is the one that repeats, if it may; else none does.
 unfoldable pub pressed : Keys → Mode → ℕ → ℕ → Keys

@@ -17,7 +17,7 @@ pub struct HandedRest {
 }
 
 // What goes to the terminal where the bytes that wait are lent: how many of them wait, the key that repeats, and its countdown.
-pub struct Told {
+pub struct OutgoingRest {
     pub length: u8,
     pub repeating: u8,
     pub countdown: u8,

@@ -24,7 +24,7 @@ kind-sizes Scan d line s = scan-sizes d (bytesFrom line 0 18) s
 kind-sizes Map d line s = swap-sizes d (bytesFrom line 0 144) s
 kind-sizes Malformed d line s = s
 
-pub step-sizes : (d : Dock) (line : List ℕ) → Sizes d → Sizes (stepOf d line .dock)
+step-sizes : (d : Dock) (line : List ℕ) → Sizes d → Sizes (stepOf d line .dock)
 unfolding stepOf
 step-sizes d line s = picked (λ (r : Stepped). Sizes (r .dock)) (inRange d) _ _ (kind-sizes (kindOf line) d line s) s
 

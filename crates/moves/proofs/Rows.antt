@@ -34,7 +34,7 @@ module _ (m : Mode) (types map : List ℕ) where
           turns-rows column row (omega arith),
         )
 
-    pub turns-column : (column : ℕ) → turnsTo (8 * (column + 1)) m types map was is k
+    turns-column : (column : ℕ) → turnsTo (8 * (column + 1)) m types map was is k
         ≡ rowsTo 8 m types map column (getD was column 0) (getD is column 0) (turnsTo (8 * column) m types map was is k)
     turns-column column =
         let positions : 8 * (column + 1) ≡ 8 * column + 8 = omega arith in

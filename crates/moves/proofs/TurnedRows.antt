@@ -9,10 +9,11 @@ use lib.Count.{trailingZeros}
 use lib.Dec.{T, eqb, ltb, ltb→lt}
 use lib.ListN.{getD}
 use Rattle.basics.specs.Choice.{pick, both}
-use Rattle.basics.proofs.Tables.{allBelow, below, both-left, both-right}
-use Rattle.contacts.specs.Scans.{contactIn, same}
+use Rattle.basics.specs.Lists.{same}
+use Rattle.basics.proofs.Tables.{allBelow, below, passed, both-left, both-right}
+use Rattle.basics.proofs.Sameness.{same-is}
+use Rattle.contacts.specs.Scans.{contactIn}
 use Rattle.contacts.proofs.Bytes.{row-same}
-use Rattle.contacts.proofs.Sameness.{same-is}
 use Rattle.record.specs.declared.Mode.{Mode}
 use Rattle.record.specs.declared.Keys.{Keys}
 use Rattle.keying.specs.Moves.{moved, turned, rowsTo}
@@ -60,10 +61,6 @@ module _ (byte : ℕ) (some : 0 < byte) where
     rows-next : rowsIn byte ≡ trailingZeros 32 byte ∷ rowsIn (bitAnd byte (byte - 1))
     unfolding isFirst
     rows-next = same-is _ _ (passed (isFirst byte) (both-right (isOfEight byte) (isFirst byte) tested))
-      where
-        passed : (b : Bool) → T b → b ≡ true
-        passed true t = refl
-        passed false t = absurd t
 
 module _ (m : Mode) (types map : List ℕ) (column is : ℕ) where
   on-rows-joined : (rows others : List ℕ) (k : Keys)

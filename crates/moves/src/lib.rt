@@ -1,6 +1,6 @@
 // A key goes down or comes up (docs/RULES.md, sections 5 and 6). The flags of the held keys are lent, and change in place.
 use contacts::Columns;
-use keying::Told;
+use keying::OutgoingRest;
 use keying::repeating::delay_of;
 use keys::Table;
 use queue::Queue;
@@ -19,23 +19,23 @@ ghost use Rattle.basics.specs.Lists.{allUpTo};
 ghost use Rattle.keys.specs.Keys.{laidOut, lastKey};
 ghost use Rattle.record.specs.Apart.{keysWith};
 ghost use Rattle.range.specs.Range.{goodKeys, goodMode};
-ghost use Rattle.keying.specs.Moves.{keysTold, pressed, released, moved, turnsTo, rowsTo};
+ghost use Rattle.keying.specs.Moves.{keysFrom, pressed, released, moved, turnsTo, rowsTo};
 
 // A key is pressed.
 fn press(
     held: &mut Held,
     bytes: &mut [u8; 16],
-    t: Told,
+    rest: OutgoingRest,
     table: &Table,
     m: Mode,
     kind: u8,
     key: u8,
-) -> Told
-    requires { ⌜ (goodKeys (keysTold (now held) (now bytes) t) ≡ true) × (goodMode m ≡ true) × (length (now bytes) ≡ 16) × (key < 144) × (now table ≡ laidOut) ⌝ }
-    ensures { λ r. ⌜ keysTold (now (held .exit)) (now (bytes .exit)) r ≡ pressed (keysTold (now (held .entry)) (now (bytes .entry)) t) m kind key ⌝ }
+) -> OutgoingRest
+    requires { ⌜ (goodKeys (keysFrom (now held) (now bytes) rest) ≡ true) × (goodMode m ≡ true) × (length (now bytes) ≡ 16) × (key < 144) × (now table ≡ laidOut) ⌝ }
+    ensures { λ r. ⌜ keysFrom (now (held .exit)) (now (bytes .exit)) r ≡ pressed (keysFrom (now (held .entry)) (now (bytes .entry)) rest) m kind key ⌝ }
 {
-    let mut e = t;
-    e.length = send_press(held, bytes, t.length as usize, table, m, kind, key) as u8;
+    let mut e = rest;
+    e.length = send_press(held, bytes, rest.length as usize, table, m, kind, key) as u8;
     held[key as usize] = 1;
     if codes::rows::may_repeat(m.set, key, kind) {
         e.repeating = key;
@@ -51,19 +51,19 @@ fn press(
 fn release(
     held: &mut Held,
     bytes: &mut [u8; 16],
-    t: Told,
+    rest: OutgoingRest,
     table: &Table,
     m: Mode,
     kind: u8,
     key: u8,
-) -> Told
-    requires { ⌜ (goodKeys (keysTold (now held) (now bytes) t) ≡ true) × (goodMode m ≡ true) × (length (now bytes) ≡ 16) × (key < 144) × (now table ≡ laidOut) ⌝ }
-    ensures { λ r. ⌜ keysTold (now (held .exit)) (now (bytes .exit)) r ≡ released (keysTold (now (held .entry)) (now (bytes .entry)) t) m kind key ⌝ }
+) -> OutgoingRest
+    requires { ⌜ (goodKeys (keysFrom (now held) (now bytes) rest) ≡ true) × (goodMode m ≡ true) × (length (now bytes) ≡ 16) × (key < 144) × (now table ≡ laidOut) ⌝ }
+    ensures { λ r. ⌜ keysFrom (now (held .exit)) (now (bytes .exit)) r ≡ released (keysFrom (now (held .entry)) (now (bytes .entry)) rest) m kind key ⌝ }
 {
-    let mut e = t;
-    e.length = send_release(held, bytes, t.length as usize, table, m, kind, key) as u8;
+    let mut e = rest;
+    e.length = send_release(held, bytes, rest.length as usize, table, m, kind, key) as u8;
     held[key as usize] = 0;
-    if t.repeating == key {
+    if rest.repeating == key {
         e.repeating = 0;
         e.countdown = 0;
     }
@@ -74,31 +74,31 @@ fn release(
 fn contact_turned(
     held: &mut Held,
     bytes: &mut [u8; 16],
-    t: Told,
+    rest: OutgoingRest,
     table: &Table,
     m: Mode,
     types: &Types,
     key: u8,
     closed: u8,
-) -> Told
-    requires { ⌜ (goodKeys (keysTold (now held) (now bytes) t) ≡ true) × (goodMode m ≡ true) × (length (now bytes) ≡ 16) × (key ≤ lastKey) × (now table ≡ laidOut) ⌝ }
-    ensures { λ r. ⌜ keysTold (now (held .exit)) (now (bytes .exit)) r ≡ moved (keysTold (now (held .entry)) (now (bytes .entry)) t) m (now (types .entry)) key closed ⌝ }
+) -> OutgoingRest
+    requires { ⌜ (goodKeys (keysFrom (now held) (now bytes) rest) ≡ true) × (goodMode m ≡ true) × (length (now bytes) ≡ 16) × (key ≤ lastKey) × (now table ≡ laidOut) ⌝ }
+    ensures { λ r. ⌜ keysFrom (now (held .exit)) (now (bytes .exit)) r ≡ moved (keysFrom (now (held .entry)) (now (bytes .entry)) rest) m (now (types .entry)) key closed ⌝ }
 {
     if key == 0 {
-        return t;
+        return rest;
     }
     let kind = types[key as usize];
     if closed == 1 {
-        return press(held, bytes, t, table, m, kind, key);
+        return press(held, bytes, rest, table, m, kind, key);
     }
-    release(held, bytes, t, table, m, kind, key)
+    release(held, bytes, rest, table, m, kind, key)
 }
 
 // The contacts of a column that turned: only their rows are visited, the lowest first.
 fn column(
     held: &mut Held,
     bytes: &mut [u8; 16],
-    t: Told,
+    rest: OutgoingRest,
     table: &Table,
     m: Mode,
     types: &Types,
@@ -106,11 +106,11 @@ fn column(
     c: usize,
     was: u8,
     is: u8,
-) -> Told
-    requires { ⌜ (goodKeys (keysTold (now held) (now bytes) t) ≡ true) × (goodMode m ≡ true) × (length (now bytes) ≡ 16) × (c < 18) × (allUpTo lastKey (now map) ≡ true) × (now table ≡ laidOut) ⌝ }
-    ensures { λ r. ⌜ keysTold (now (held .exit)) (now (bytes .exit)) r ≡ rowsTo 8 m (now (types .entry)) (now (map .entry)) c was is (keysTold (now (held .entry)) (now (bytes .entry)) t) ⌝ }
+) -> OutgoingRest
+    requires { ⌜ (goodKeys (keysFrom (now held) (now bytes) rest) ≡ true) × (goodMode m ≡ true) × (length (now bytes) ≡ 16) × (c < 18) × (allUpTo lastKey (now map) ≡ true) × (now table ≡ laidOut) ⌝ }
+    ensures { λ r. ⌜ keysFrom (now (held .exit)) (now (bytes .exit)) r ≡ rowsTo 8 m (now (types .entry)) (now (map .entry)) c was is (keysFrom (now (held .entry)) (now (bytes .entry)) rest) ⌝ }
 {
-    let mut e = t;
+    let mut e = rest;
     let mut turned = (was ^ is) as u32;
     while turned != 0 {
         let r = u32::trailing_zeros(turned) as usize;
@@ -145,7 +145,7 @@ pub fn turns(
     let table = keys::table();
     let q = o.queue;
     let mut bytes = q.bytes;
-    let mut e = Told {
+    let mut e = OutgoingRest {
         length: q.length as u8,
         repeating: o.repeating,
         countdown: o.countdown,

@@ -101,7 +101,7 @@ phantom-each (x ∷ xs) e (suc j) (suc d) p = rw suc-add (phantom-each xs (neith
 -- So a scan of 18 columns is phantom where the last two share, or one of sixteen with a column less than 18 behind it: a later
 -- column than those sixteen has another behind it only if it is the last but one.
 module _ (s l : List ℕ) (n : length s ≡ 18) (f : (k : ℕ) → getD l k 0 ≡ getD s k 0) where
-  pub by-distances : sharesWithin 18 l ≡ isPhantom s
+  by-distances : sharesWithin 18 l ≡ isPhantom s
   by-distances = alike (sharesWithin 18 l) (isPhantom s) found sought
     where
       alike : (a b : Bool) → (a ≡ false → b ≡ false) → (b ≡ false → a ≡ false) → a ≡ b

@@ -43,7 +43,7 @@ ones-and (suc n) a b h =
     omega (arith, low, and-le-l (a % 2) (b % 2), ones-step a, ones-step (bitAnd a b))
 
 -- So a column with fewer than two closed rows shares with none,
-pub few-shares : (x : ℕ) (l : List ℕ) (b : Bool) → b ≡ twoClosed x → b ≡ false → false ≡ sharesAny x l
+few-shares : (x : ℕ) (l : List ℕ) (b : Bool) → b ≡ twoClosed x → b ≡ false → false ≡ sharesAny x l
 unfolding sharesAny
 few-shares x [] b e f = refl
 few-shares x (y ∷ ys) b e f =

@@ -15,7 +15,7 @@ length-lastReplaced mark [] = refl
 length-lastReplaced mark (x ∷ []) = refl
 length-lastReplaced mark (x ∷ y ∷ rest) = ap suc (length-lastReplaced mark (y ∷ rest))
 
-pub last-alone-replaced : (mark : ℕ) (front : List ℕ) (last : ℕ) → lastReplaced mark (front ++ last ∷ []) ≡ front ++ mark ∷ []
+last-alone-replaced : (mark : ℕ) (front : List ℕ) (last : ℕ) → lastReplaced mark (front ++ last ∷ []) ≡ front ++ mark ∷ []
 unfolding lastReplaced
 last-alone-replaced mark [] last = refl
 last-alone-replaced mark (x ∷ []) last = refl
@@ -36,7 +36,7 @@ module _ (mark : ℕ) (l s : List ℕ) (full : hasRoom l (length s) ≡ false) w
   unfolding pushedTo
   pushed-nothing = rw full
 
-  pub pushed-nothing-length : length (pushedTo mark l s) ≡ length l
+  pushed-nothing-length : length (pushedTo mark l s) ≡ length l
   pushed-nothing-length = rw pushed-nothing (length-lastReplaced mark l)
 
   pub pushed-nothing-front : (front : List ℕ) (last : ℕ) → l ≡ front ++ last ∷ [] → pushedTo mark l s ≡ front ++ mark ∷ []

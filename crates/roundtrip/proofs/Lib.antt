@@ -1,3 +1,2 @@
 pub mod ReadBack
-pub mod Lists
 pub mod OnlyItsOwn

@@ -8,7 +8,9 @@ use native.Mathlib.Nat.{not-suc-le-zero}
 use native.Mathlib.Omega.{arith}
 use lib.Dec.{T, eqb, leb, leb→le}
 use Rattle.basics.specs.Choice.{both, either, between}
-use Rattle.basics.proofs.Tables.{allBelow, below, both-left, both-right}
+use Rattle.basics.specs.Lists.{same}
+use Rattle.basics.proofs.Tables.{allBelow, below, passed, both-left, both-right}
+use Rattle.basics.proofs.Sameness.{same-is}
 use Rattle.keys.specs.Keys.{rows, rowOf, codeIn, lastKey}
 use Rattle.lookup.specs.Lookup.{keyWith, firstWith}
 use Rattle.codes.specs.declared.Form.the-variants.{Plain, Other}
@@ -18,7 +20,6 @@ use Rattle.reader.specs.declared.Event.the-variants.{More, Pressed, Released, P
 use Rattle.reader.specs.States.{beginnings, seen}
 use Rattle.reader.specs.Reader.{readByte, inSet1, inSet2, inSet3, heard}
 use Rattle.roundtrip.specs.OwnCode.{GoesDown, ComesUp}
-use Rattle.roundtrip.proofs.Lists.{same, same-is-equal}
 
 -- A number and a list that pass these tests are a key and its code in a set.
 isCode : ℕ → ℕ → List ℕ → List ℕ → List ℕ → Bool
@@ -47,15 +48,15 @@ everywhere : ℕ → Bool
 everywhere set = allBelow (λ state. allBelow (rightAt set state) 256) 15
 
 in-set-1 : T (everywhere 1)
-unfolding everywhere rightAt right isCode beginnings seen rows rowOf codeIn keyWith firstWith makeOf breakOf prefix codeOf readByte inSet1 heard
+unfolding everywhere rightAt right isCode same beginnings seen rows rowOf codeIn keyWith firstWith makeOf breakOf prefix codeOf readByte inSet1 heard
 in-set-1 = tt
 
 in-set-2 : T (everywhere 2)
-unfolding everywhere rightAt right isCode beginnings seen rows rowOf codeIn keyWith firstWith makeOf breakOf prefix codeOf readByte inSet2 heard
+unfolding everywhere rightAt right isCode same beginnings seen rows rowOf codeIn keyWith firstWith makeOf breakOf prefix codeOf readByte inSet2 heard
 in-set-2 = tt
 
 in-set-3 : T (everywhere 3)
-unfolding everywhere rightAt right isCode beginnings seen rows rowOf codeIn keyWith firstWith makeOf breakOf prefix codeOf readByte inSet3
+unfolding everywhere rightAt right isCode same beginnings seen rows rowOf codeIn keyWith firstWith makeOf breakOf prefix codeOf readByte inSet3
 in-set-3 = tt
 
 at : (set state byte : ℕ) → 1 ≤ set → set ≤ 3 → state ≤ 14 → byte < 256 → T (rightAt set state byte)
@@ -88,11 +89,11 @@ code-of set key bytes plain other t = (
     range = both-left (between 1 lastKey key) (either (same bytes plain) byOther) t
 
     go : (b : Bool) → same bytes plain ≡ b → T (either b byOther) → (bytes ≡ plain) ⊎ ((set ≡ 3 → ⊥) × (bytes ≡ other))
-    go true e h = inl (same-is-equal bytes plain (rw e tt))
+    go true e h = inl (same-is bytes plain e)
     go false e h =
         inr (
           λ third. subst (λ (n : ℕ). T (not (eqb n 3))) third (both-left (not (eqb set 3)) (same bytes other) h),
-          same-is-equal bytes other (both-right (not (eqb set 3)) (same bytes other) h),
+          same-is bytes other (passed (same bytes other) (both-right (not (eqb set 3)) (same bytes other) h)),
         )
 
 module _ (set state byte : ℕ) (low : 1 ≤ set) (high : set ≤ 3) (s : state ≤ 14) (b : byte < 256) where
@@ -124,4 +125,4 @@ module _ (set state byte : ℕ) (low : 1 ≤ set) (high : set ≤ 3) (s : state 
   -- Where more is needed, the next state stands for exactly the bytes read so far.
   pub state-is-what-was-read : readByte set state byte .event ≡ More → seen (readByte set state byte .state) ≡ seen state ++ byte ∷ []
   unfolding right
-  state-is-what-was-read e = sym (same-is-equal (seen state ++ byte ∷ []) (seen (readByte set state byte .state)) (told More e))
+  state-is-what-was-read e = sym (same-is (seen state ++ byte ∷ []) (seen (readByte set state byte .state)) (passed _ (told More e)))

@@ -2,7 +2,7 @@
 use mathlib.Core.Path.{_≡_, refl}
 use lib.Count.{ones, onesIn}
 use mathlib.Core.List.{map}
-use Rattle.basics.specs.Lists.{allUpTo}
+use Rattle.basics.specs.Lists.{allUpTo, same}
 use Rattle.record.specs.Power.{countUp, plainMap, defaultTypes, freshWith, powerOn}
 use Rattle.range.specs.Range.{inRange, goodMode, goodKeys}
 use Rattle.record.specs.Held.{modifiersOf}
@@ -11,7 +11,7 @@ use Rattle.replies.specs.Replies.{waitingReplies, repliesOf, tidyReplies}
 use Rattle.keys.specs.Keys.{rows, rowOf, codeIn}
 use Rattle.lookup.specs.Lookup.{keyWith, firstWith}
 use Rattle.codes.specs.Codes.{encode, bytesOf, formOf, cursorForm, shiftForm, printForm, pauseForm, before, after, makeOf, breakOf, prefix, codeOf, sendsRelease, mayRepeat, pauseBytes}
-use Rattle.contacts.specs.Scans.{contact, same}
+use Rattle.contacts.specs.Scans.{contact}
 use Rattle.phantom.specs.Phantom.{isPhantom, sharesAny}
 use Rattle.contacts.specs.Counts.{countedOf}
 use Rattle.sending.specs.Sending.{sends, queuedOf}
@@ -37,21 +37,21 @@ use Rattle.runs.specs.Calls.{clears, isClearing}
 use Rattle.runs.specs.Worlds.{woken, isReset, scansAfterScan, scansAfterSwap, scansAfterFrame, next, afterCalls}
 use Rattle.runs.specs.Runs.{mayBegin, changesOverrun, overruns, undisturbed}
 use Rattle.runs.specs.Stories.{Story, outcome, flagged, saidFrom, host, nothing, showing, showingToo}
-use Rattle.runs.specs.Told.{stories, limestone, heldOn, repeated as repeatedStory, shiftedCursor, shiftedCursorInSet1, twelve, twelvePressed, twelveReleased, longHandover, secondSwap, waitingCommand, thirdScan, pauseStruck, refusals}
+use Rattle.runs.specs.Told.{stories, limestone, heldOn, repeatEnded, shiftedCursor, shiftedCursorInSet1, twelve, twelvePressed, twelveReleased, longHandover, secondSwap, waitingCommand, thirdScan, pauseStruck, refusals}
 
 -- The list names every unfoldable definition that a story computes through, crate by crate. If one is missing, the two sides stand
 -- still and `refl` is refused: add it here.
 pub all-as-told : map (λ (s : Story). outcome (s .earlier) (s .calls)) stories ≡ map (λ (s : Story). s .end) stories
 unfolding
     ones onesIn
-    allUpTo
+    allUpTo same
     countUp plainMap defaultTypes freshWith powerOn inRange goodMode goodKeys modifiersOf
     waiting queueOf tidy waitingReplies repliesOf tidyReplies pushedTo lastReplaced
     rows rowOf codeIn
     keyWith firstWith
     encode bytesOf formOf cursorForm shiftForm printForm pauseForm before after makeOf breakOf prefix codeOf sendsRelease
     mayRepeat pauseBytes
-    contact same isPhantom sharesAny countedOf
+    contact isPhantom sharesAny countedOf
     sends queuedOf
     pressed releasedWith released moved turned turnsTo delayOf intervalOf repeated handedFrom
     parity packedOf whole unpackedOf
@@ -64,7 +64,7 @@ unfolding
     lacksRoom overrunsAt overrunsTo
     begun hears
     clears isClearing isReset woken scansAfterScan scansAfterSwap scansAfterFrame next afterCalls mayBegin changesOverrun
-    overruns undisturbed outcome flagged saidFrom host nothing showing showingToo stories limestone heldOn repeatedStory
+    overruns undisturbed outcome flagged saidFrom host nothing showing showingToo stories limestone heldOn repeatEnded
     shiftedCursor shiftedCursorInSet1 twelve twelvePressed twelveReleased givenIn longHandover secondSwap
     waitingCommand thirdScan pauseStruck refusals
 all-as-told = refl

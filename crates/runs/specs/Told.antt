@@ -21,8 +21,8 @@ heldOn =
 
 -- A repeat is read as a press of the key that is down; after a swap nothing repeats any more. The quickest rate is chosen, F3 00: a repeat
 -- after 60 scans, and the next would come 8 scans later.
-unfoldable pub repeated : Story
-repeated =
+unfoldable pub repeatEnded : Story
+repeatEnded =
     story (reads 1 ++ host 0xf3 ++ host 0)
     (scans 3 (showing 0 4) ++ reads 1 ++ scans 60 (showing 0 4) ++ reads 1 ++ Swap plainMap ∷ reads 2 ++ scans 9 nothing ++ reads 1)
     (agreeing (0x1e ∷ 0x1e ∷ 0xf0 ∷ 0x1e ∷ []) [])
@@ -90,5 +90,5 @@ refusals =
 -- All of them.
 unfoldable pub stories : List Story
 stories =
-    limestone ∷ heldOn ∷ repeated ∷ shiftedCursor ∷ shiftedCursorInSet1 ∷ longHandover ∷ secondSwap ∷ waitingCommand
+    limestone ∷ heldOn ∷ repeatEnded ∷ shiftedCursor ∷ shiftedCursorInSet1 ∷ longHandover ∷ secondSwap ∷ waitingCommand
     ∷ thirdScan ∷ pauseStruck ∷ refusals ∷ []

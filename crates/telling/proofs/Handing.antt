@@ -46,7 +46,7 @@ down-any held key j = go (ℕ-discrete j key)
 pub held-up : (k : Keys) (key : ℕ) → isHeld k key ≡ true → getD (k .held) key 0 ≡ 0 → ⊥
 held-up k key h = eqb-false _ _ (not-true (eqb (getD (k .held) key 0) 0) h)
 
-pub not-held-down : (k : Keys) (key : ℕ) → isHeld k key ≡ false → getD (k .held) key 0 ≡ 0
+not-held-down : (k : Keys) (key : ℕ) → isHeld k key ≡ false → getD (k .held) key 0 ≡ 0
 not-held-down k key h = eqb-true _ _ (not-false (eqb (getD (k .held) key 0) 0) h)
 
 -- Where flags went down or stayed, no more keys are held,
@@ -54,7 +54,7 @@ module _ (before after : List ℕ) (lower : (j : ℕ) → (getD after j 0 ≡ 0)
   flag-lower : (j : ℕ) → flagOf (getD after j 0) ≤ flagOf (getD before j 0)
   flag-lower j = ⊎-elim (λ e. rw e (omega arith)) (λ e. rw e (omega arith)) (lower j)
 
-  pub no-more-held : (n : ℕ) → heldTo n after ≤ heldTo n before
+  no-more-held : (n : ℕ) → heldTo n after ≤ heldTo n before
   unfolding heldTo
   no-more-held zero = omega arith
   no-more-held (suc n) = omega (arith, no-more-held n, flag-lower (suc n))
@@ -74,7 +74,7 @@ module _ (before after : List ℕ) (lower : (j : ℕ) → (getD after j 0 ≡ 0)
 
 module _ (m : Mode) (types : List ℕ) where
   -- Whatever is handed over, a flag is down or as it was,
-  pub handed-any : (n key : ℕ) (k : Keys) (j : ℕ)
+  handed-any : (n key : ℕ) (k : Keys) (j : ℕ)
       → (getD (handedFrom n key k m types .keys .held) j 0 ≡ 0) ⊎ (getD (handedFrom n key k m types .keys .held) j 0 ≡ getD (k .held) j 0)
   unfolding released releasedWith
   handed-any n key k j =
@@ -84,7 +84,7 @@ module _ (m : Mode) (types : List ℕ) where
       n key k types (inr refl)
 
   -- so one that is down stays down.
-  pub handed-down : (n key : ℕ) (k : Keys) (j : ℕ) → getD (k .held) j 0 ≡ 0 → getD (handedFrom n key k m types .keys .held) j 0 ≡ 0
+  handed-down : (n key : ℕ) (k : Keys) (j : ℕ) → getD (k .held) j 0 ≡ 0 → getD (handedFrom n key k m types .keys .held) j 0 ≡ 0
   handed-down n key k j down = ⊎-elim (λ e. e) (λ e. e ∙ down) (handed-any n key k j)
 
   pub handed-outside : (n key : ℕ) (k : Keys) → Outside (k .held) → Outside (handedFrom n key k m types .keys .held)
@@ -115,7 +115,7 @@ module _ (m : Mode) (types : List ℕ) where
         off (not-false (isHeld k key) (neither-first (not (isHeld k key)) leaves e)) (neither-second (not (isHeld k key)) leaves e))
 
   -- A finished handover has let every key go.
-  pub handed-finished : (n key : ℕ) (k : Keys) → handedFrom n key k m types .unfinished ≡ false → (j : ℕ) → key ≤ j → j < key + n
+  handed-finished : (n key : ℕ) (k : Keys) → handedFrom n key k m types .unfinished ≡ false → (j : ℕ) → key ≤ j → j < key + n
       → getD (handedFrom n key k m types .keys .held) j 0 ≡ 0
   handed-finished zero key k done j low high = absurd (omega arith)
   handed-finished (suc n) key k done j low high =

@@ -39,7 +39,7 @@ module _ (m : Mode) where
 
   module _ (types map : List ℕ) where
     -- One contact: the flags of all keys but its own stay,
-    pub turned-other : (position before after : ℕ) (k : Keys) (j : ℕ)
+    turned-other : (position before after : ℕ) (k : Keys) (j : ℕ)
         → ((getD map position 0 ≡ 0 → ⊥) → getD map position 0 ≡ j → ⊥)
         → getD (turned m types map position before after k .held) j 0 ≡ getD (k .held) j 0
     unfolding turned moved pressed released releasedWith
@@ -54,7 +54,7 @@ module _ (m : Mode) where
         (λ c. getD-set-other (k .held) key j 0 0 (λ q. other (eqb-false key 0 z) (sym q)))))
 
     -- and its own becomes what the contact is.
-    pub turned-own : (position before after : ℕ) (k : Keys) → (getD map position 0 ≡ 0 → ⊥) → getD map position 0 < length (k .held)
+    turned-own : (position before after : ℕ) (k : Keys) → (getD map position 0 ≡ 0 → ⊥) → getD map position 0 < length (k .held)
         → after < 2 → getD (k .held) (getD map position 0) 0 ≡ before
         → getD (turned m types map position before after k .held) (getD map position 0) 0 ≡ after
     unfolding turned moved pressed released releasedWith
@@ -78,13 +78,13 @@ module _ (m : Mode) where
           turned-other n (contact was n) (contact is n) (turnsTo n m types map was is k) j (none n (omega arith))
           ∙ turns-other n j (λ p h. none p (omega arith))
 
-      pub turns-flags : length (k .held) ≡ 144 → allUpTo lastKey map ≡ true → (n : ℕ) → length (turnsTo n m types map was is k .held) ≡ 144
+      turns-flags : length (k .held) ≡ 144 → allUpTo lastKey map ≡ true → (n : ℕ) → length (turnsTo n m types map was is k .held) ≡ 144
       turns-flags flags limit n =
           turns-keep Flags m released-flags (λ k type key h p. pressed-flags k type key p) types map limit n was is k flags
 
       module _ (flags : length (k .held) ≡ 144) (limit : allUpTo lastKey map ≡ true) (once : Once map) where
         -- A key whose contact is below the position shows what the contact is.
-        pub turns-own : (p : ℕ) → (getD map p 0 ≡ 0 → ⊥) → getD (k .held) (getD map p 0) 0 ≡ contact was p
+        turns-own : (p : ℕ) → (getD map p 0 ≡ 0 → ⊥) → getD (k .held) (getD map p 0) 0 ≡ contact was p
             → (n : ℕ) → p < n → n ≤ 144 → getD (turnsTo n m types map was is k .held) (getD map p 0) 0 ≡ contact is p
         unfolding turnsTo
         turns-own p some before zero h b = absurd (not-suc-le-zero h)

@@ -74,7 +74,7 @@ module _ (m : Mode) (h : (m .set ≡ 1) ⊎ (m .set ≡ 2)) (t : Terminal) where
             ∙ press-heard (m .set) h key low high type (modifiersOf (k .held)) (numLock (m .indicators)) (k .held);
       }
 
-  pub released-told : (k : Keys) (type key : ℕ) → 1 ≤ key → key ≤ lastKey → Fits k m type key Release
+  released-told : (k : Keys) (type key : ℕ) → 1 ≤ key → key ≤ lastKey → Fits k m type key Release
       → Told (m .set) t k → Told (m .set) t (released k m type key)
   unfolding released releasedWith sends
   released-told k type key low high room p =

@@ -33,17 +33,17 @@ line-end-within text at h = omega (arith, line-length-within (drop at text), len
 
 module _ (text : List ℕ) (at : ℕ) where
   -- At a newline the line ends;
-  pub line-end-here : at < length text → getD text at 0 ≡ 10 → lineEnd text at ≡ at
+  line-end-here : at < length text → getD text at 0 ≡ 10 → lineEnd text at ≡ at
   unfolding lineEnd lineLength
   line-end-here h e = rw (drop-cons text at 0, eq-eqb (getD text at 0) 10 e, add-zero)
 
   -- at another character it ends where it does from the next place on;
-  pub line-end-past : at < length text → (getD text at 0 ≡ 10 → ⊥) → lineEnd text at ≡ lineEnd text (at + 1)
+  line-end-past : at < length text → (getD text at 0 ≡ 10 → ⊥) → lineEnd text at ≡ lineEnd text (at + 1)
   unfolding lineEnd lineLength
   line-end-past h n = rw (drop-cons text at 0, ne-eqb (getD text at 0) 10 n, add-one) (omega arith)
 
   -- and at the text's end it ends, too.
-  pub line-end-last : length text ≤ at → lineEnd text at ≡ at
+  line-end-last : length text ≤ at → lineEnd text at ≡ at
   unfolding lineEnd lineLength
   line-end-last h = rw (drop-of-length-le, add-zero)
 

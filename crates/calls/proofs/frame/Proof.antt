@@ -8,7 +8,7 @@ use Rattle.dock.specs.Answers.{answered}
 use Rattle.dock.specs.Frame.{frameOf}
 use Rattle.dock.proofs.InRange.{rest-in-range, apart-in-range}
 use Rattle.dock.proofs.Framing.{frame-bad-record}
-use Rattle.calls.proofs.Whole.{put-together}
+use Rattle.record.proofs.Whole.{put-together}
 use Rattle.calls.proofs.frame.Statement.{statement}
 use Rattle.calls.proofs.frame.Tie as tie
 

@@ -8,7 +8,7 @@ use Rattle.dock.specs.Answers.{taken}
 use Rattle.dock.specs.Read.{readOf}
 use Rattle.dock.proofs.InRange.{rest-in-range, apart-in-range}
 use Rattle.dock.proofs.Reading.{read-bad-record}
-use Rattle.calls.proofs.Whole.{put-together}
+use Rattle.record.proofs.Whole.{put-together}
 use Rattle.calls.proofs.read.Statement.{statement}
 use Rattle.calls.proofs.read.Tie as tie
 

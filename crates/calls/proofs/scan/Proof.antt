@@ -8,7 +8,7 @@ use Rattle.dock.specs.Answers.{answered}
 use Rattle.dock.specs.Scan.{scanOf}
 use Rattle.dock.proofs.InRange.{apart-in-range}
 use Rattle.dock.proofs.Scanning.{scan-bad-record}
-use Rattle.calls.proofs.Whole.{put-together}
+use Rattle.record.proofs.Whole.{put-together}
 use Rattle.calls.proofs.scan.Statement.{statement}
 use Rattle.calls.proofs.scan.Tie as tie
 

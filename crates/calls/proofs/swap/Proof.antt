@@ -8,7 +8,7 @@ use Rattle.dock.specs.Answers.{answered}
 use Rattle.dock.specs.Swap.{swapOf}
 use Rattle.dock.proofs.InRange.{apart-in-range}
 use Rattle.dock.proofs.Swapping.{swap-bad-record}
-use Rattle.calls.proofs.Whole.{put-together}
+use Rattle.record.proofs.Whole.{put-together}
 use Rattle.calls.proofs.swap.Statement.{statement}
 use Rattle.calls.proofs.swap.Tie as tie
 

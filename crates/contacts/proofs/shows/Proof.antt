@@ -6,8 +6,8 @@ use mathlib.Core.Logic.{⊎-elim}
 use native.Mathlib.Omega.{arith}
 use lib.ListN.{drop}
 use Rattle.basics.specs.Choice.{both}
-use Rattle.contacts.specs.Scans.{same}
-use Rattle.contacts.proofs.Sameness.{same-no, same-yes, same-end}
+use Rattle.basics.specs.Lists.{same}
+use Rattle.basics.proofs.Sameness.{same-no, same-yes, same-end}
 use Rattle.contacts.proofs.shows.Statement.{statement}
 use Rattle.contacts.proofs.shows.Tie as tie
 

@@ -1,11 +1,11 @@
 -- `lines::step` meets its contract: a record in its range is taken apart, the line run in place, and the record put together. Assumes nothing.
-use mathlib.Core.Path.{ap, sym, _∙_}
+use mathlib.Core.Path.{sym, _∙_}
 use borrow.Author.Needs.{needs}
 use borrow.Author.Tests.{not-true, not-false}
-use Rattle.dock.proofs.InRange.{apart-in-range}
 use Rattle.record.specs.declared.Dock.{Dock}
-use Rattle.record.specs.declared.Rest.{Rest}
-use Rattle.record.specs.Apart.{dockWith}
+use Rattle.record.proofs.Whole.{put-together}
+use Rattle.dock.proofs.InRange.{apart-in-range}
+use Rattle.lines.specs.declared.Stepped.{Stepped}
 use Rattle.lines.specs.Steps.{stepped, stepOf}
 use Rattle.lines.proofs.Printing.{bad-record-steps}
 use Rattle.lines.proofs.step.Statement.{statement}
@@ -40,9 +40,8 @@ returns-2 c =
     let looked = rest .before .before .before .before .before .before .before .before in
     let a = looked .before .before .before .args in
     let d = a .d in
-    ap (λ (e : Dock). stepped e (x .result .printed)) (c .dock-with .ensures)
-    ∙ x .ensures
-    ∙ ap (λ (r : Rest). stepOf (dockWith (d .map) (d .contacts .closed) (d .contacts .counts) (d .keys .held) (d .types) r) (a .line .now)) (rest .rest-of .ensures)
+    put-together Stepped (λ (e : Dock). stepped e (x .result .printed)) (λ (e : Dock). stepOf e (a .line .now)) d _ _ _ (rest .rest-of .ensures) (c .dock-with .ensures)
+    (x .ensures)
 
 pub step-spec : {M : Type 1} → statement M
 step-spec =

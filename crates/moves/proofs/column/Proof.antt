@@ -11,7 +11,7 @@ use Rattle.basics.proofs.Limits.{up-to-at}
 use Rattle.keys.specs.Keys.{lastKey}
 use Rattle.record.specs.declared.Keys.{Keys}
 use Rattle.range.specs.Range.{goodKeys}
-use Rattle.keying.specs.Moves.{keysTold, rowsTo}
+use Rattle.keying.specs.Moves.{keysFrom, rowsTo}
 use Rattle.keying.proofs.Good.{moved-good}
 use Rattle.keying.proofs.Places.{moved-bytes}
 use Rattle.moves.proofs.TurnedRows.{rowsIn, onRows, lowest-small, fewer, rows-are, row-moved, rows-done}
@@ -20,8 +20,8 @@ use Rattle.moves.proofs.column.Tie as tie
 
 abbrev Inv-loop : tie.InvT-loop
 Inv-loop held₀ bytes₀ table m types map c was is e₀ turned₀ held bytes e turned =
-    (turned < 256) × (goodKeys (keysTold held bytes e) ≡ true) × (length bytes ≡ 16)
-    × (rowsTo 8 m types map c was is (keysTold held₀ bytes₀ e₀) ≡ onRows (rowsIn turned) m types map c is (keysTold held bytes e))
+    (turned < 256) × (goodKeys (keysFrom held bytes e) ≡ true) × (length bytes ≡ 16)
+    × (rowsTo 8 m types map c was is (keysFrom held₀ bytes₀ e₀) ≡ onRows (rowsIn turned) m types map c is (keysFrom held bytes e))
 
 abbrev μ-loop : tie.MeasureT-loop
 μ-loop held₀ bytes₀ table m types map c was is e₀ turned₀ held bytes e turned = turned
@@ -34,7 +34,7 @@ cast-turned c =
 loop-holds : tie.Need-loop-holds Inv-loop μ-loop
 loop-holds c =
     let a = c .args in
-    let all = rows-are (a .m) (a .types .now) (a .map .now) (a .c) (a .is) (a .was) (keysTold (a .held .now) (a .bytes .now) (a .t)) in
+    let all = rows-are (a .m) (a .types .now) (a .map .now) (a .c) (a .is) (a .was) (keysFrom (a .held .now) (a .bytes .now) (a .rest)) in
     (xor-lt 8 (a .was) (a .is) (omega arith) (omega arith), c .pre .0, c .pre .2, all)
 
 cast-r : tie.Need-cast-r Inv-loop μ-loop
@@ -78,7 +78,7 @@ loop-again c =
     let p = l .before .pre in
     let t = l .loop .turned in
     let i = l .loop .inv in
-    let e = keysTold (l .loop .held) (l .loop .bytes) (l .loop .e) in
+    let e = keysFrom (l .loop .held) (l .loop .bytes) (l .loop .e) in
     let after = c .contact-turned .ensures in
     let good = ap goodKeys after ∙ moved-good (a .m) (p .1) (a .types .now) _ _ (up-to-at lastKey _ _ (p .4)) e (i .1) in
     let places = ap (λ (k : Keys). length (k .queue .bytes)) after ∙ moved-bytes (a .m) (a .types .now) _ _ (up-to-at lastKey _ _ (p .4)) e (i .2) in
@@ -87,7 +87,7 @@ loop-again c =
 returns : tie.Need-returns Inv-loop μ-loop
 returns c =
     let l = c .before .loop in
-    rows-done _ _ _ _ _ _ (keysTold (l .held) (l .bytes) (l .e)) (l .turned) (l .inv .3) (omega arith)
+    rows-done _ _ _ _ _ _ (keysFrom (l .held) (l .bytes) (l .e)) (l .turned) (l .inv .3) (omega arith)
 
 pub column-spec : {M : Type 1} → statement M
 column-spec =

@@ -5,9 +5,9 @@ use borrow.Author.Needs.{needs}
 use Rattle.queue.specs.Queues.{queueWith}
 use Rattle.range.proofs.Ranges.{good-mode-rate, good-keys-queue}
 use Rattle.sending.specs.Sending.{sends}
-use Rattle.keying.specs.Moves.{keysTold}
+use Rattle.keying.specs.Moves.{keysFrom}
 use Rattle.keying.proofs.Good.{queued-short}
-use Rattle.keying.proofs.Changes.{pressed-repeats, pressed-once}
+use Rattle.keying.proofs.Changes.{pressed-to-repeat, pressed-once}
 use Rattle.moves.proofs.press.Statement.{statement}
 use Rattle.moves.proofs.press.Tie as tie
 
@@ -18,13 +18,13 @@ send-press-requires : tie.Need-send-press-requires
 send-press-requires c κs =
     let s = c .before .before .before in
     let a = s .args in
-    (good-keys-queue (keysTold (a .held .now) (a .bytes .now) (a .t)) (s .pre .0), s .pre .2, s .pre .4)
+    (good-keys-queue (keysFrom (a .held .now) (a .bytes .now) (a .rest)) (s .pre .0), s .pre .2, s .pre .4)
 
 cast-e : tie.Need-cast-e
 cast-e c =
     let s = c .before .before .before .before in
     let a = s .args in
-    let k = keysTold (a .held .now) (a .bytes .now) (a .t) in
+    let k = keysFrom (a .held .now) (a .bytes .now) (a .rest) in
     let few : c .send-press .result ≤ 16 = queued-short (queueWith _ (c .send-press .result)) (k .queue) _ _ (c .send-press .ensures) (good-keys-queue k (s .pre .0)) in
     omega arith
 
@@ -42,7 +42,7 @@ unfolding sends
 returns c =
     let m = c .before .before in
     let a = m .before .before .before .before .before .args in
-    pressed-repeats (keysTold (a .held .now) (a .bytes .now) (a .t)) (a .m) (a .kind) (a .key) _ (m .before .send-press .ensures) _ (m .may-repeat .ensures)
+    pressed-to-repeat (keysFrom (a .held .now) (a .bytes .now) (a .rest)) (a .m) (a .kind) (a .key) _ (m .before .send-press .ensures) _ (m .may-repeat .ensures)
     (c .before .if1 .taken) _ (c .delay-of .ensures)
 
 returns-2 : tie.Need-returns-2
@@ -50,7 +50,7 @@ unfolding sends
 returns-2 c =
     let m = c .before in
     let a = m .before .before .before .before .before .args in
-    pressed-once (keysTold (a .held .now) (a .bytes .now) (a .t)) (a .m) (a .kind) (a .key) _ (m .before .send-press .ensures) _ (m .may-repeat .ensures)
+    pressed-once (keysFrom (a .held .now) (a .bytes .now) (a .rest)) (a .m) (a .kind) (a .key) _ (m .before .send-press .ensures) _ (m .may-repeat .ensures)
     (c .if1 .left)
 
 pub press-spec : {M : Type 1} → statement M

@@ -5,7 +5,7 @@ use borrow.Author.Needs.{needs}
 use Rattle.queue.specs.Queues.{queueWith}
 use Rattle.range.proofs.Ranges.{good-keys-queue}
 use Rattle.sending.specs.Sending.{sends}
-use Rattle.keying.specs.Moves.{keysTold}
+use Rattle.keying.specs.Moves.{keysFrom}
 use Rattle.keying.proofs.Good.{queued-short}
 use Rattle.keying.proofs.Changes.{released-repeats, released-only}
 use Rattle.moves.proofs.release.Statement.{statement}
@@ -18,13 +18,13 @@ send-release-requires : tie.Need-send-release-requires
 send-release-requires c κs =
     let s = c .before .before .before in
     let a = s .args in
-    (good-keys-queue (keysTold (a .held .now) (a .bytes .now) (a .t)) (s .pre .0), s .pre .2, s .pre .1, s .pre .4)
+    (good-keys-queue (keysFrom (a .held .now) (a .bytes .now) (a .rest)) (s .pre .0), s .pre .2, s .pre .1, s .pre .4)
 
 cast-e : tie.Need-cast-e
 cast-e c =
     let s = c .before .before .before .before in
     let a = s .args in
-    let k = keysTold (a .held .now) (a .bytes .now) (a .t) in
+    let k = keysFrom (a .held .now) (a .bytes .now) (a .rest) in
     let few : c .send-release .result ≤ 16 = queued-short (queueWith _ (c .send-release .result)) (k .queue) _ _ (c .send-release .ensures) (good-keys-queue k (s .pre .0)) in
     omega arith
 
@@ -36,14 +36,14 @@ unfolding sends
 returns c =
     let r = c .before .before in
     let a = r .before .before .before .before .args in
-    released-repeats (keysTold (a .held .now) (a .bytes .now) (a .t)) (a .m) (a .kind) (a .key) _ (r .send-release .ensures) (c .if1 .taken)
+    released-repeats (keysFrom (a .held .now) (a .bytes .now) (a .rest)) (a .m) (a .kind) (a .key) _ (r .send-release .ensures) (c .if1 .taken)
 
 returns-2 : tie.Need-returns-2
 unfolding sends
 returns-2 c =
     let r = c .before .before in
     let a = r .before .before .before .before .args in
-    released-only (keysTold (a .held .now) (a .bytes .now) (a .t)) (a .m) (a .kind) (a .key) _ (r .send-release .ensures) (c .if1 .left)
+    released-only (keysFrom (a .held .now) (a .bytes .now) (a .rest)) (a .m) (a .kind) (a .key) _ (r .send-release .ensures) (c .if1 .left)
 
 pub release-spec : {M : Type 1} → statement M
 release-spec =

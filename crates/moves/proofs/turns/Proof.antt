@@ -11,8 +11,8 @@ use Rattle.record.specs.declared.Keys.{Keys}
 use Rattle.record.specs.Apart.{keysWith}
 use Rattle.range.specs.Range.{goodKeys}
 use Rattle.range.proofs.Ranges.{good-keys-queue}
-use Rattle.keying.specs.Moves.{keysTold, turnsTo}
-use Rattle.keying.proofs.Changes.{told-same}
+use Rattle.keying.specs.Moves.{keysFrom, turnsTo}
+use Rattle.keying.proofs.Changes.{keys-from-same}
 use Rattle.keying.proofs.Good.{turns-good}
 use Rattle.keying.proofs.Places.{turns-bytes}
 use Rattle.moves.proofs.Rows.{turns-none, column-stays, column-turns, turns-all}
@@ -21,7 +21,7 @@ use Rattle.moves.proofs.turns.Tie as tie
 
 abbrev Inv-loop : tie.InvT-loop
 Inv-loop held₀ m types map was is table bytes₀ e₀ c₀ held bytes e c =
-    (c ≤ 18) × (length bytes₀ ≡ 16) × (keysTold held bytes e ≡ turnsTo (8 * c) m types map was is (keysTold held₀ bytes₀ e₀))
+    (c ≤ 18) × (length bytes₀ ≡ 16) × (keysFrom held bytes e ≡ turnsTo (8 * c) m types map was is (keysFrom held₀ bytes₀ e₀))
 
 abbrev μ-loop : tie.MeasureT-loop
 μ-loop held₀ m types map was is table bytes₀ e₀ c₀ held bytes e c = 18 - c
@@ -76,10 +76,10 @@ loop-again c =
     let a = l .before .before .before .before .before .args in
     let i = l .loop .inv .2 in
     let k = keysWith (a .held .now) (a .o) in
-    let e = keysTold (l .loop .held) (l .loop .bytes) (l .loop .e) in
-    let again : keysTold (c .if1 .held) (c .if1 .bytes) (c .if1 .e) ≡ turnsTo (8 * (l .loop .c + 1)) (a .m) (a .types .now) (a .map .now) (a .was .now) (a .is .now) k = ⊎-elim
-    (λ w. column-turns _ _ _ _ _ k (l .loop .c) e i _ (told-same _ _ _ _ _ _ (w .7) (w .8) (w .9) ∙ w .6 .ensures))
-    (λ w. column-stays _ _ _ _ _ k (l .loop .c) e i _ (w .0 .left) (told-same _ _ _ _ _ _ (w .1) (w .2) (w .3)))
+    let e = keysFrom (l .loop .held) (l .loop .bytes) (l .loop .e) in
+    let again : keysFrom (c .if1 .held) (c .if1 .bytes) (c .if1 .e) ≡ turnsTo (8 * (l .loop .c + 1)) (a .m) (a .types .now) (a .map .now) (a .was .now) (a .is .now) k = ⊎-elim
+    (λ w. column-turns _ _ _ _ _ k (l .loop .c) e i _ (keys-from-same _ _ _ _ _ _ (w .7) (w .8) (w .9) ∙ w .6 .ensures))
+    (λ w. column-stays _ _ _ _ _ k (l .loop .c) e i _ (w .0 .left) (keys-from-same _ _ _ _ _ _ (w .1) (w .2) (w .3)))
     (c .if1 .came) in
     (omega arith, l .loop .inv .1, again)
 
@@ -90,7 +90,7 @@ returns : tie.Need-returns Inv-loop μ-loop
 returns c =
     let l = c .before .before .loop in
     let a = c .before .before .before .before .before .before .before .args in
-    turns-all _ _ _ _ _ (keysWith (a .held .now) (a .o)) _ (keysTold (l .held) (l .bytes) (l .e)) (l .inv .2) (l .inv .0) (c .before .loop-test .left)
+    turns-all _ _ _ _ _ (keysWith (a .held .now) (a .o)) _ (keysFrom (l .held) (l .bytes) (l .e)) (l .inv .2) (l .inv .0) (c .before .loop-test .left)
 
 pub turns-spec : {M : Type 1} → statement M
 turns-spec =

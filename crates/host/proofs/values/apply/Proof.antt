@@ -3,7 +3,8 @@ use native.Mathlib.Omega.{arith}
 use borrow.Author.Needs.{needs}
 use Rattle.record.specs.Apart.{dockWith}
 use Rattle.host.specs.Values.{valued}
-use Rattle.host.proofs.Rows.{valued-type, right-command, right-key}
+use Rattle.lookup.proofs.Small.{key-with-small}
+use Rattle.host.proofs.Rows.{valued-type, right-command}
 use Rattle.host.proofs.values.apply.Statement.{statement}
 use Rattle.host.proofs.values.apply.Tie as tie
 
@@ -33,8 +34,9 @@ sub-types c =
 
 element-write-types : tie.Need-element-write-types
 element-write-types c =
-    let l = c .before in
-    let key = right-key _ _ (l .before .before .if1 .left) (l .before .if2 .left) (l .if3 .left) (l .before .before .before .before .pre) in
+    let a = c .before .before .before .before .before .args in
+    let small = key-with-small 3 (a .value) in
+    let key = c .in-set3 .ensures in
     omega arith
 
 returns-4 : tie.Need-returns-4

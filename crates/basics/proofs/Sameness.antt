@@ -1,4 +1,4 @@
--- Two scans that show the same, as a loop with a flag finds it out. Assumes nothing.
+-- Two lists that are the same: they are equal; and as a loop with a flag finds it out. Assumes nothing.
 use mathlib.Core.Path.{_≡_, refl, ap₂, _∙_}
 use mathlib.Core.Bool.{Bool, true, false}
 use mathlib.Core.List.{List, [], _∷_}
@@ -8,9 +8,9 @@ use borrow.Author.Tests.{eq-eqb, ne-eqb, eqb-true}
 use lib.Dec.{eqb}
 use lib.ListN.{length, getD, drop, drop-of-length-le}
 use lib.Seq.{drop-cons}
 use Rattle.basics.specs.Choice.{both}
+use Rattle.basics.specs.Lists.{same}
 use Rattle.basics.proofs.Flags.{flag-down, flag-stays, flag-tells, left-of-both, right-of-both}
-use Rattle.contacts.specs.Scans.{same}
 
 pub same-is : (s t : List ℕ) → same s t ≡ true → s ≡ t
 unfolding same
