@@ -69,21 +69,21 @@ fn run_in_place(
     counts: &mut Counts,
     held: &mut Held,
     types: &mut Types,
-    r: Rest,
+    before: Rest,
     text: &[u8],
     out: &mut [u8],
 ) -> RanRest
-    requires { ⌜ (length (now text) ≤ 16384) × (length (now out) ≡ 65536) × (inRange (dockWith (now map) (now closed) (now counts) (now held) (now types) r) ≡ true) × (length (now closed) ≡ 18) × (length (now counts) ≡ 144) ⌝ }
-    ensures { λ w. ⌜ (w .used ≤ length (now (text .entry))) × (w .written ≤ 65536) × (inRange (dockWith (now (map .exit)) (now (closed .exit)) (now (counts .exit)) (now (held .exit)) (now (types .exit)) (w .rest)) ≡ true) ⌝ }
+    requires { ⌜ (length (now text) ≤ 16384) × (length (now out) ≡ 65536) × (inRange (dockWith (now map) (now closed) (now counts) (now held) (now types) before) ≡ true) × (length (now closed) ≡ 18) × (length (now counts) ≡ 144) ⌝ }
+    ensures { λ r. ⌜ (r .used ≤ length (now (text .entry))) × (r .written ≤ 65536) × (inRange (dockWith (now (map .exit)) (now (closed .exit)) (now (counts .exit)) (now (held .exit)) (now (types .exit)) (r .rest)) ≡ true) ⌝ }
 {
-    let mut rest = r;
+    let mut rest = before;
     let mut at: usize = 0;
     let mut written: usize = 0;
     let mut end = text::end_of(text, 0);
     while end < text.len() {
-        let x = lines::step_in_place(map, closed, counts, held, types, rest, &text[at..end]);
-        let printed = x.printed;
-        rest = x.rest;
+        let stepped = lines::step_in_place(map, closed, counts, held, types, rest, &text[at..end]);
+        let printed = stepped.printed;
+        rest = stepped.rest;
         written = put(out, written, printed);
         at = end + 1;
         end = text::end_of(text, at);
@@ -96,33 +96,33 @@ fn run_in_place(
 }
 
 // The same of the whole record, which is taken apart once.
-fn run(d: Dock, text: &[u8], out: &mut [u8]) -> Ran
-    requires { ⌜ (inRange d ≡ true) × (length (now text) ≤ 16384) × (length (now out) ≡ 65536) ⌝ }
+fn run(dock: Dock, text: &[u8], out: &mut [u8]) -> Ran
+    requires { ⌜ (inRange dock ≡ true) × (length (now text) ≤ 16384) × (length (now out) ≡ 65536) ⌝ }
     ensures { λ r. ⌜ (r .used ≤ length (now (text .entry))) × (r .written ≤ 65536) × (inRange (r .dock) ≡ true) ⌝ }
 {
-    let contacts = d.contacts;
-    let keys = d.keys;
-    let mut map = d.map;
+    let contacts = dock.contacts;
+    let keys = dock.keys;
+    let mut map = dock.map;
     let mut closed = contacts.closed;
     let mut counts = contacts.counts;
     let mut held = keys.held;
-    let mut types = d.types;
-    let r = record::apart::rest_of(d);
-    let w = run_in_place(
+    let mut types = dock.types;
+    let rest = record::apart::rest_of(dock);
+    let ran = run_in_place(
         &mut map,
         &mut closed,
         &mut counts,
         &mut held,
         &mut types,
-        r,
+        rest,
         text,
         out,
     );
-    let rest = w.rest;
+    let after = ran.rest;
     Ran {
-        dock: record::apart::dock_with(map, closed, counts, held, types, rest),
-        used: w.used,
-        written: w.written,
+        dock: record::apart::dock_with(map, closed, counts, held, types, after),
+        used: ran.used,
+        written: ran.written,
     }
 }
 
@@ -152,14 +152,14 @@ fn keep(input: &mut [u8], from: usize, end: usize) -> usize
 }
 
 // Runs what is at hand: the characters kept, and those that came after them.
-fn work(d: Dock, input: &mut [u8], out: &mut [u8], end: usize) -> Turn
-    requires { ⌜ (inRange d ≡ true) × (end ≤ 16384) × (length (now input) ≡ 16384) × (length (now out) ≡ 65536) ⌝ }
+fn work(before: Dock, input: &mut [u8], out: &mut [u8], end: usize) -> Turn
+    requires { ⌜ (inRange before ≡ true) × (end ≤ 16384) × (length (now input) ≡ 16384) × (length (now out) ≡ 65536) ⌝ }
     ensures { λ r. ⌜ (r .kept ≤ 289) × (inRange (r .dock) ≡ true) ⌝ }
 {
-    let r = run(d, &input[..end], out);
-    let dock = r.dock;
-    let used = r.used;
-    let written = r.written;
+    let ran = run(before, &input[..end], out);
+    let dock = ran.dock;
+    let used = ran.used;
+    let written = ran.written;
     let going = io::write_all(STDOUT_FILENO, &out[..written]);
     let kept = keep(input, used, end);
     Turn { dock, kept, going }
@@ -181,31 +181,31 @@ fn end_after(input: &mut [u8], kept: usize, got: isize) -> usize
 }
 
 // Reads once, and runs what came. When nothing comes any more, the last line was run.
-fn next(d: Dock, input: &mut [u8], out: &mut [u8], kept: usize) -> Turn
-    requires { ⌜ (inRange d ≡ true) × (kept ≤ 289) × (length (now input) ≡ 16384) × (length (now out) ≡ 65536) ⌝ }
+fn next(dock: Dock, input: &mut [u8], out: &mut [u8], kept: usize) -> Turn
+    requires { ⌜ (inRange dock ≡ true) × (kept ≤ 289) × (length (now input) ≡ 16384) × (length (now out) ≡ 65536) ⌝ }
     ensures { λ r. ⌜ (r .kept ≤ 289) × (inRange (r .dock) ≡ true) ⌝ }
 {
     let got = libc::read(STDIN_FILENO, &mut input[kept..]);
     let end = end_after(input, kept, got);
-    let mut t = work(d, input, out, end);
-    t.going = t.going & (0 < got);
-    t
+    let mut turn = work(dock, input, out, end);
+    turn.going = turn.going & (0 < got);
+    turn
 }
 
 // Turn after turn. A proved loop has to end, and nothing says that input does: the turns are more than any run uses up.
-fn serve(d: Dock, input: &mut [u8], out: &mut [u8])
-    requires { ⌜ (inRange d ≡ true) × (length (now input) ≡ 16384) × (length (now out) ≡ 65536) ⌝ }
+fn serve(first: Dock, input: &mut [u8], out: &mut [u8])
+    requires { ⌜ (inRange first ≡ true) × (length (now input) ≡ 16384) × (length (now out) ≡ 65536) ⌝ }
 {
-    let mut dock = d;
+    let mut dock = first;
     let mut kept: usize = 0;
     let mut turns = u64::MAX;
     while 0 < turns {
-        let t = next(dock, input, out, kept);
-        if !t.going {
+        let turn = next(dock, input, out, kept);
+        if !turn.going {
             return;
         }
-        dock = t.dock;
-        kept = t.kept;
+        dock = turn.dock;
+        kept = turn.kept;
         turns -= 1;
     }
 }

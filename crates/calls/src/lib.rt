@@ -20,117 +20,132 @@ ghost use Rattle.dock.specs.Swap.{swapOf};
 ghost use Rattle.dock.specs.Frame.{frameOf};
 
 // The scan call: a record out of its range is refused first.
-pub fn scan(d: Dock, scan: &[u8]) -> Answered
-    ensures { λ r. ⌜ r ≡ scanOf d (now (scan .entry)) ⌝ }
+pub fn scan(dock: Dock, scan: &[u8]) -> Answered
+    ensures { λ r. ⌜ r ≡ scanOf dock (now (scan .entry)) ⌝ }
 {
-    if !in_range(d) {
+    if !in_range(dock) {
         return Answered {
             answer: Answer::BadRecord,
-            dock: d,
+            dock,
         };
     }
-    let contacts = d.contacts;
-    let keys = d.keys;
-    let map = d.map;
+    let contacts = dock.contacts;
+    let keys = dock.keys;
+    let map = dock.map;
     let mut closed = contacts.closed;
     let mut counts = contacts.counts;
     let mut held = keys.held;
-    let types = d.types;
-    let r = rest_of(d);
-    let x = scan_in_place(&map, &mut closed, &mut counts, &mut held, &types, r, scan);
-    let answer = x.answer;
-    let rest = x.rest;
+    let types = dock.types;
+    let rest = rest_of(dock);
+    let answered = scan_in_place(
+        &map,
+        &mut closed,
+        &mut counts,
+        &mut held,
+        &types,
+        rest,
+        scan,
+    );
+    let answer = answered.answer;
+    let after = answered.rest;
     Answered {
         answer,
-        dock: dock_with(map, closed, counts, held, types, rest),
+        dock: dock_with(map, closed, counts, held, types, after),
     }
 }
 
 // The read call: a record out of its range is refused.
-pub fn read(d: Dock) -> Taken
-    ensures { λ r. ⌜ r ≡ readOf d ⌝ }
+pub fn read(dock: Dock) -> Taken
+    ensures { λ r. ⌜ r ≡ readOf dock ⌝ }
 {
-    if !in_range(d) {
+    if !in_range(dock) {
         return Taken {
             given: Given::Refused,
-            dock: d,
+            dock,
         };
     }
-    let contacts = d.contacts;
-    let keys = d.keys;
-    let map = d.map;
+    let contacts = dock.contacts;
+    let keys = dock.keys;
+    let map = dock.map;
     let closed = contacts.closed;
     let counts = contacts.counts;
     let mut held = keys.held;
-    let types = d.types;
-    let r = rest_of(d);
-    let x = read_in_place(&mut held, &types, r);
-    let given = x.given;
-    let rest = x.rest;
+    let types = dock.types;
+    let rest = rest_of(dock);
+    let answered = read_in_place(&mut held, &types, rest);
+    let given = answered.given;
+    let after = answered.rest;
     Taken {
         given,
-        dock: dock_with(map, closed, counts, held, types, rest),
+        dock: dock_with(map, closed, counts, held, types, after),
     }
 }
 
 // The swap call: a record out of its range is refused first.
-pub fn swap(d: Dock, new: &[u8]) -> Answered
-    ensures { λ r. ⌜ r ≡ swapOf d (now (new .entry)) ⌝ }
+pub fn swap(dock: Dock, new: &[u8]) -> Answered
+    ensures { λ r. ⌜ r ≡ swapOf dock (now (new .entry)) ⌝ }
 {
-    if !in_range(d) {
+    if !in_range(dock) {
         return Answered {
             answer: Answer::BadRecord,
-            dock: d,
+            dock,
         };
     }
-    let contacts = d.contacts;
-    let keys = d.keys;
-    let mut map = d.map;
+    let contacts = dock.contacts;
+    let keys = dock.keys;
+    let mut map = dock.map;
     let mut closed = contacts.closed;
     let mut counts = contacts.counts;
     let mut held = keys.held;
-    let types = d.types;
-    let r = rest_of(d);
-    let x = swap_in_place(
+    let types = dock.types;
+    let rest = rest_of(dock);
+    let answered = swap_in_place(
         &mut map,
         &mut closed,
         &mut counts,
         &mut held,
         &types,
-        r,
+        rest,
         new,
     );
-    let answer = x.answer;
-    let rest = x.rest;
+    let answer = answered.answer;
+    let after = answered.rest;
     Answered {
         answer,
-        dock: dock_with(map, closed, counts, held, types, rest),
+        dock: dock_with(map, closed, counts, held, types, after),
     }
 }
 
 // The frame call: a record out of its range is refused first.
-pub fn frame(d: Dock, number: u32) -> Answered
-    ensures { λ r. ⌜ r ≡ frameOf d number ⌝ }
+pub fn frame(dock: Dock, number: u32) -> Answered
+    ensures { λ r. ⌜ r ≡ frameOf dock number ⌝ }
 {
-    if !in_range(d) {
+    if !in_range(dock) {
         return Answered {
             answer: Answer::BadRecord,
-            dock: d,
+            dock,
         };
     }
-    let contacts = d.contacts;
-    let keys = d.keys;
-    let map = d.map;
+    let contacts = dock.contacts;
+    let keys = dock.keys;
+    let map = dock.map;
     let mut closed = contacts.closed;
     let mut counts = contacts.counts;
     let mut held = keys.held;
-    let mut types = d.types;
-    let r = rest_of(d);
-    let x = frame_in_place(&mut closed, &mut counts, &mut held, &mut types, r, number);
-    let answer = x.answer;
-    let rest = x.rest;
+    let mut types = dock.types;
+    let rest = rest_of(dock);
+    let answered = frame_in_place(
+        &mut closed,
+        &mut counts,
+        &mut held,
+        &mut types,
+        rest,
+        number,
+    );
+    let answer = answered.answer;
+    let after = answered.rest;
     Answered {
         answer,
-        dock: dock_with(map, closed, counts, held, types, rest),
+        dock: dock_with(map, closed, counts, held, types, after),
     }
 }

@@ -17,46 +17,46 @@ pub fn empty() -> Sequence
 }
 
 // One byte more.
-fn with_byte(s: Sequence, byte: u8) -> Sequence
-    requires { ⌜ s .length < 8 ⌝ }
-    ensures { λ r. ⌜ r ≡ adding s (byte ∷ []) ⌝ }
+fn with_byte(sequence: Sequence, byte: u8) -> Sequence
+    requires { ⌜ sequence .length < 8 ⌝ }
+    ensures { λ r. ⌜ r ≡ adding sequence (byte ∷ []) ⌝ }
 {
-    let at = s.length;
-    let mut t = s;
-    t.bytes[at] = byte;
-    t.length = at + 1;
-    t
+    let at = sequence.length;
+    let mut after = sequence;
+    after.bytes[at] = byte;
+    after.length = at + 1;
+    after
 }
 
 // E0 where the code has it.
-fn with_prefix(s: Sequence, code: u16) -> Sequence
-    requires { ⌜ s .length < 8 ⌝ }
-    ensures { λ r. ⌜ r ≡ adding s (prefix code) ⌝ }
+fn with_prefix(sequence: Sequence, code: u16) -> Sequence
+    requires { ⌜ sequence .length < 8 ⌝ }
+    ensures { λ r. ⌜ r ≡ adding sequence (prefix code) ⌝ }
 {
     if code / 256 == 0 {
-        return s;
+        return sequence;
     }
-    with_byte(s, (code / 256) as u8)
+    with_byte(sequence, (code / 256) as u8)
 }
 
 // What a code sends when its key goes down.
-pub fn with_make(s: Sequence, code: u16) -> Sequence
-    requires { ⌜ s .length ≤ 6 ⌝ }
-    ensures { λ r. ⌜ r ≡ adding s (makeOf code) ⌝ }
+pub fn with_make(sequence: Sequence, code: u16) -> Sequence
+    requires { ⌜ sequence .length ≤ 6 ⌝ }
+    ensures { λ r. ⌜ r ≡ adding sequence (makeOf code) ⌝ }
 {
-    let t = with_prefix(s, code);
-    with_byte(t, (code % 256) as u8)
+    let prefixed = with_prefix(sequence, code);
+    with_byte(prefixed, (code % 256) as u8)
 }
 
 // What a code sends when its key comes up.
-pub fn with_break(s: Sequence, set: u8, code: u16) -> Sequence
-    requires { ⌜ s .length ≤ 5 ⌝ }
-    ensures { λ r. ⌜ r ≡ adding s (breakOf set code) ⌝ }
+pub fn with_break(sequence: Sequence, set: u8, code: u16) -> Sequence
+    requires { ⌜ sequence .length ≤ 5 ⌝ }
+    ensures { λ r. ⌜ r ≡ adding sequence (breakOf set code) ⌝ }
 {
-    let t = with_prefix(s, code);
+    let prefixed = with_prefix(sequence, code);
     if set == 1 {
-        return with_byte(t, (code % 128 + 128) as u8);
+        return with_byte(prefixed, (code % 128 + 128) as u8);
     }
-    let u = with_byte(t, 0xf0);
-    with_byte(u, (code % 256) as u8)
+    let broken = with_byte(prefixed, 0xf0);
+    with_byte(broken, (code % 256) as u8)
 }

@@ -13,79 +13,79 @@ ghost use Rattle.record.specs.Apart.{RestAfter, TypesAfter, ArraysAfter};
 ghost use Rattle.commands.specs.Commands.{cleared, quietened, readied, enabled, defaulted, disabled, typed, restarted, obeyed, commanded};
 
 // No key byte waits.
-fn clear(r: Rest) -> Rest
-    ensures { λ e. ⌜ RestAfter cleared r e ⌝ }
+fn clear(rest: Rest) -> Rest
+    ensures { λ r. ⌜ RestAfter cleared rest r ⌝ }
 {
-    let mut o = r.outgoing;
-    o.queue = queue::empty();
-    let mut e = r;
-    e.outgoing = o;
-    e
+    let mut outgoing = rest.outgoing;
+    outgoing.queue = queue::empty();
+    let mut after = rest;
+    after.outgoing = outgoing;
+    after
 }
 
 // No key byte waits, and no key repeats.
-fn quieten(r: Rest) -> Rest
-    ensures { λ e. ⌜ RestAfter quietened r e ⌝ }
+fn quieten(rest: Rest) -> Rest
+    ensures { λ r. ⌜ RestAfter quietened rest r ⌝ }
 {
-    let mut o = r.outgoing;
-    o.queue = queue::empty();
-    o.repeating = 0;
-    o.countdown = 0;
-    let mut e = r;
-    e.outgoing = o;
-    e
+    let mut outgoing = rest.outgoing;
+    outgoing.queue = queue::empty();
+    outgoing.repeating = 0;
+    outgoing.countdown = 0;
+    let mut after = rest;
+    after.outgoing = outgoing;
+    after
 }
 
 // F0, until the set is given: nothing queued, nothing repeating, default rate.
-fn ready_for_set(r: Rest) -> Rest
-    ensures { λ e. ⌜ RestAfter readied r e ⌝ }
+fn ready_for_set(rest: Rest) -> Rest
+    ensures { λ r. ⌜ RestAfter readied rest r ⌝ }
 {
-    let mut m = r.mode;
-    m.rate = DEFAULT_RATE;
-    let mut e = quieten(r);
-    e.mode = m;
-    e
+    let mut mode = rest.mode;
+    mode.rate = DEFAULT_RATE;
+    let mut after = quieten(rest);
+    after.mode = mode;
+    after
 }
 
 // F4: nothing queued, nothing repeating, scanning on.
-fn enable(r: Rest) -> Rest
-    ensures { λ e. ⌜ RestAfter enabled r e ⌝ }
+fn enable(rest: Rest) -> Rest
+    ensures { λ r. ⌜ RestAfter enabled rest r ⌝ }
 {
-    let mut on = quieten(r);
+    let mut on = quieten(rest);
     on.scanning = true;
     on
 }
 
 // F6: nothing queued, nothing repeating, set 2, default rate and types.
-fn set_default(types: &mut Types, r: Rest) -> Rest
-    ensures { λ e. ⌜ TypesAfter defaulted (now (types .entry)) r (now (types .exit)) e ⌝ }
+fn set_default(types: &mut Types, rest: Rest) -> Rest
+    ensures { λ r. ⌜ TypesAfter defaulted (now (types .entry)) rest (now (types .exit)) r ⌝ }
 {
-    let mut m = r.mode;
-    m.set = 2;
-    m.rate = DEFAULT_RATE;
+    let mut mode = rest.mode;
+    mode.set = 2;
+    mode.rate = DEFAULT_RATE;
     let defaults = record::power::default_types();
     *types = defaults;
-    let mut e = quieten(r);
-    e.mode = m;
-    e
+    let mut after = quieten(rest);
+    after.mode = mode;
+    after
 }
 
 // F5: the same, and scanning off.
-fn disable(types: &mut Types, r: Rest) -> Rest
-    ensures { λ e. ⌜ TypesAfter disabled (now (types .entry)) r (now (types .exit)) e ⌝ }
+fn disable(types: &mut Types, rest: Rest) -> Rest
+    ensures { λ r. ⌜ TypesAfter disabled (now (types .entry)) rest (now (types .exit)) r ⌝ }
 {
-    let mut off = set_default(types, r);
+    let mut off = set_default(types, rest);
     off.scanning = false;
     off
 }
 
 // F7 to FA: nothing queued, and every key of one type.
-fn set_all_types(types: &mut Types, r: Rest, kind: u8) -> Rest
-    ensures { λ e. ⌜ TypesAfter (typed kind) (now (types .entry)) r (now (types .exit)) e ⌝ }
+fn set_all_types(types: &mut Types, rest: Rest, kind: u8) -> Rest
+    ensures { λ r. ⌜ TypesAfter (typed kind) (now (types .entry)) rest (now (types .exit)) r ⌝ }
 {
     let all = [kind; keys::PLACES];
     *types = all;
-    clear(r)
+    clear(rest)
 }
 
 // FF: as at power-on, but for the map. The replies are replaced when the command is answered.
@@ -94,11 +94,11 @@ fn reset(
     counts: &mut Counts,
     held: &mut Held,
     types: &mut Types,
-    r: Rest,
+    rest: Rest,
 ) -> Rest
-    ensures { λ e. ⌜ ArraysAfter restarted
-        (now (closed .entry)) (now (counts .entry)) (now (held .entry)) (now (types .entry)) r
-        (now (closed .exit)) (now (counts .exit)) (now (held .exit)) (now (types .exit)) e ⌝ }
+    ensures { λ r. ⌜ ArraysAfter restarted
+        (now (closed .entry)) (now (counts .entry)) (now (held .entry)) (now (types .entry)) rest
+        (now (closed .exit)) (now (counts .exit)) (now (held .exit)) (now (types .exit)) r ⌝ }
 {
     let no_columns = [0; 18];
     let no_keys = [0; 144];
@@ -107,7 +107,7 @@ fn reset(
     *counts = no_keys;
     *held = no_keys;
     *types = defaults;
-    let replies = r.replies;
+    let replies = rest.replies;
     record::power::fresh_rest(replies)
 }
 
@@ -117,22 +117,22 @@ fn obey(
     counts: &mut Counts,
     held: &mut Held,
     types: &mut Types,
-    r: Rest,
+    rest: Rest,
     byte: u8,
 ) -> Rest
-    ensures { λ e. ⌜ ArraysAfter (obeyed byte)
-        (now (closed .entry)) (now (counts .entry)) (now (held .entry)) (now (types .entry)) r
-        (now (closed .exit)) (now (counts .exit)) (now (held .exit)) (now (types .exit)) e ⌝ }
+    ensures { λ r. ⌜ ArraysAfter (obeyed byte)
+        (now (closed .entry)) (now (counts .entry)) (now (held .entry)) (now (types .entry)) rest
+        (now (closed .exit)) (now (counts .exit)) (now (held .exit)) (now (types .exit)) r ⌝ }
 {
     match byte {
-        0xf0 => ready_for_set(r),
-        0xf4 => enable(r),
-        0xf5 => disable(types, r),
-        0xf6 => set_default(types, r),
-        0xf7..=0xfa => set_all_types(types, r, byte - 0xf7),
-        0xfb..=0xfd => clear(r),
-        0xff => reset(closed, counts, held, types, r),
-        _ => r,
+        0xf0 => ready_for_set(rest),
+        0xf4 => enable(rest),
+        0xf5 => disable(types, rest),
+        0xf6 => set_default(types, rest),
+        0xf7..=0xfa => set_all_types(types, rest, byte - 0xf7),
+        0xfb..=0xfd => clear(rest),
+        0xff => reset(closed, counts, held, types, rest),
+        _ => rest,
     }
 }
 
@@ -142,18 +142,18 @@ pub fn command(
     counts: &mut Counts,
     held: &mut Held,
     types: &mut Types,
-    r: Rest,
+    rest: Rest,
     byte: u8,
 ) -> Rest
-    ensures { λ e. ⌜ ArraysAfter (commanded byte)
-        (now (closed .entry)) (now (counts .entry)) (now (held .entry)) (now (types .entry)) r
-        (now (closed .exit)) (now (counts .exit)) (now (held .exit)) (now (types .exit)) e ⌝ }
+    ensures { λ r. ⌜ ArraysAfter (commanded byte)
+        (now (closed .entry)) (now (counts .entry)) (now (held .entry)) (now (types .entry)) rest
+        (now (closed .exit)) (now (counts .exit)) (now (held .exit)) (now (types .exit)) r ⌝ }
 {
-    let mut e = obey(closed, counts, held, types, r, byte);
-    e.replies = reply_to(byte);
-    e.waiting = 0;
+    let mut after = obey(closed, counts, held, types, rest, byte);
+    after.replies = reply_to(byte);
+    after.waiting = 0;
     if range::takes_value(byte) {
-        e.waiting = byte;
+        after.waiting = byte;
     }
-    e
+    after
 }

@@ -7,27 +7,27 @@ ghost use mathlib.Core.Bool.{true};
 ghost use Rattle.dock.specs.Closing.{closing, restInRange, HeldAfter};
 
 // An open handover goes on: the flags of the held keys are lent. It is apart, so that calls do not pay for it while none is open.
-pub fn go_on(held: &mut Held, types: &Types, r: Rest) -> Rest
-    requires { ⌜ (restInRange (now held) (now types) r ≡ true) × (r .handover ≡ true) ⌝ }
-    ensures { λ e. ⌜ HeldAfter closing (now (held .entry)) (now (types .entry)) r (now (held .exit)) e ⌝ }
+pub fn go_on(held: &mut Held, types: &Types, rest: Rest) -> Rest
+    requires { ⌜ (restInRange (now held) (now types) rest ≡ true) × (rest .handover ≡ true) ⌝ }
+    ensures { λ r. ⌜ HeldAfter closing (now (held .entry)) (now (types .entry)) rest (now (held .exit)) r ⌝ }
 {
-    let o = r.outgoing;
-    let m = r.mode;
-    let p = handover::hand_over(held, o, m, types);
-    let left = p.outgoing;
-    let mut e = r;
-    e.outgoing = left;
-    e.handover = p.unfinished;
-    e
+    let outgoing = rest.outgoing;
+    let mode = rest.mode;
+    let handed = handover::hand_over(held, outgoing, mode, types);
+    let left = handed.outgoing;
+    let mut after = rest;
+    after.outgoing = left;
+    after.handover = handed.unfinished;
+    after
 }
 
 // So an accepted call ends.
-pub fn close_in_place(held: &mut Held, types: &Types, r: Rest) -> Rest
-    requires { ⌜ restInRange (now held) (now types) r ≡ true ⌝ }
-    ensures { λ e. ⌜ HeldAfter closing (now (held .entry)) (now (types .entry)) r (now (held .exit)) e ⌝ }
+pub fn close_in_place(held: &mut Held, types: &Types, rest: Rest) -> Rest
+    requires { ⌜ restInRange (now held) (now types) rest ≡ true ⌝ }
+    ensures { λ r. ⌜ HeldAfter closing (now (held .entry)) (now (types .entry)) rest (now (held .exit)) r ⌝ }
 {
-    if !r.handover {
-        return r;
+    if !rest.handover {
+        return rest;
     }
-    go_on(held, types, r)
+    go_on(held, types, rest)
 }

@@ -50,12 +50,12 @@ fn action_of(event: u32) -> Action
 }
 
 // Writes a sequence to the front of the output.
-fn write(s: Sequence, out: &mut [u8])
-    requires { ⌜ (s .length ≤ 8) × (8 ≤ length (now out)) ⌝ }
-    ensures { λ _. ⌜ now (out .exit) ≡ writtenTo s (now (out .entry)) ⌝ }
+fn write(sequence: Sequence, out: &mut [u8])
+    requires { ⌜ (sequence .length ≤ 8) × (8 ≤ length (now out)) ⌝ }
+    ensures { λ _. ⌜ now (out .exit) ≡ writtenTo sequence (now (out .entry)) ⌝ }
 {
-    let n = s.length;
-    let bytes = s.bytes;
+    let n = sequence.length;
+    let bytes = sequence.bytes;
     let mut i: usize = 0;
     while i < n {
         out[i] = bytes[i];
@@ -81,7 +81,7 @@ pub fn encode(
     if out.len() < 8 {
         return Encoded::ShortOutput;
     }
-    let s = sequence_of(
+    let sequence = sequence_of(
         set as u8,
         key as u8,
         action_of(event),
@@ -89,6 +89,6 @@ pub fn encode(
         modifiers as u8,
         lock == 1,
     );
-    write(s, out);
-    Encoded::Written(s.length)
+    write(sequence, out);
+    Encoded::Written(sequence.length)
 }

@@ -19,53 +19,59 @@ ghost use Rattle.keying.specs.Moves.{letGo, releasedWith};
 ghost use Rattle.keying.specs.Handover.{handedWith, handedOver};
 
 // A key is let go, and this is the queue then.
-fn let_go(held: &mut Held, o: Outgoing, key: u8, q: Queue) -> Outgoing
+fn let_go(held: &mut Held, outgoing: Outgoing, key: u8, queue: Queue) -> Outgoing
     requires { ⌜ key < 144 ⌝ }
-    ensures { λ r. ⌜ keysWith (now (held .exit)) r ≡ letGo (keysWith (now (held .entry)) o) key q ⌝ }
+    ensures { λ r. ⌜ keysWith (now (held .exit)) r ≡ letGo (keysWith (now (held .entry)) outgoing) key queue ⌝ }
 {
-    let mut e = o;
-    e.queue = q;
+    let mut after = outgoing;
+    after.queue = queue;
     held[key as usize] = 0;
-    if o.repeating == key {
-        e.repeating = 0;
-        e.countdown = 0;
+    if outgoing.repeating == key {
+        after.repeating = 0;
+        after.countdown = 0;
     }
-    e
+    after
 }
 
 // A key is released, and these bytes say so.
-fn release_with(held: &mut Held, o: Outgoing, m: Mode, key: u8, s: Sequence) -> Outgoing
-    requires { ⌜ (goodKeys (keysWith (now held) o) ≡ true) × (key < 144) × (s .length ≤ 8) ⌝ }
-    ensures { λ r. ⌜ keysWith (now (held .exit)) r ≡ releasedWith (keysWith (now (held .entry)) o) m key (contents s) ⌝ }
+fn release_with(
+    held: &mut Held,
+    outgoing: Outgoing,
+    mode: Mode,
+    key: u8,
+    sequence: Sequence,
+) -> Outgoing
+    requires { ⌜ (goodKeys (keysWith (now held) outgoing) ≡ true) × (key < 144) × (sequence .length ≤ 8) ⌝ }
+    ensures { λ r. ⌜ keysWith (now (held .exit)) r ≡ releasedWith (keysWith (now (held .entry)) outgoing) mode key (contents sequence) ⌝ }
 {
-    let q = o.queue;
-    let after = queued(q, m, s);
-    let_go(held, o, key, after)
+    let queue = outgoing.queue;
+    let after = queued(queue, mode, sequence);
+    let_go(held, outgoing, key, after)
 }
 
 // A handover goes on as far as the queue has room.
-pub fn hand_over(held: &mut Held, o: Outgoing, m: Mode, types: &Types) -> HandedRest
-    requires { ⌜ (goodKeys (keysWith (now held) o) ≡ true) × (goodMode m ≡ true) ⌝ }
-    ensures { λ r. ⌜ handedWith (now (held .exit)) r ≡ handedOver (keysWith (now (held .entry)) o) m (now (types .entry)) ⌝ }
+pub fn hand_over(held: &mut Held, outgoing: Outgoing, mode: Mode, types: &Types) -> HandedRest
+    requires { ⌜ (goodKeys (keysWith (now held) outgoing) ≡ true) × (goodMode mode ≡ true) ⌝ }
+    ensures { λ r. ⌜ handedWith (now (held .exit)) r ≡ handedOver (keysWith (now (held .entry)) outgoing) mode (now (types .entry)) ⌝ }
 {
-    let mut e = o;
+    let mut after = outgoing;
     let mut key: u8 = 1;
     while key <= keys::LAST_KEY {
         if held[key as usize] != 0 {
-            let s = bytes_of(held, m, types[key as usize], key, Action::Release);
-            let q = e.queue;
-            if !queue::fits(q, s) {
+            let sequence = bytes_of(held, mode, types[key as usize], key, Action::Release);
+            let queue = after.queue;
+            if !queue::fits(queue, sequence) {
                 return HandedRest {
-                    outgoing: e,
+                    outgoing: after,
                     unfinished: true,
                 };
             }
-            e = release_with(held, e, m, key, s);
+            after = release_with(held, after, mode, key, sequence);
         }
         key += 1;
     }
     HandedRest {
-        outgoing: e,
+        outgoing: after,
         unfinished: false,
     }
 }

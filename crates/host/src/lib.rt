@@ -12,12 +12,12 @@ ghost use Rattle.host.specs.Values.{tookByte};
 mod values; // values.rt: the values that commands wait for
 
 // One reply instead of those before.
-pub fn reply(r: Rest, byte: u8) -> Rest
-    ensures { λ e. ⌜ RestAfter (replying (byte ∷ [])) r e ⌝ }
+pub fn reply(rest: Rest, byte: u8) -> Rest
+    ensures { λ r. ⌜ RestAfter (replying (byte ∷ [])) rest r ⌝ }
 {
-    let mut e = r;
-    e.replies = replies::one(byte);
-    e
+    let mut after = rest;
+    after.replies = replies::one(byte);
+    after
 }
 
 // A byte from the host: FE has the last byte sent again, ED to FF are commands, and a byte below them is a value.
@@ -26,18 +26,18 @@ pub fn take(
     counts: &mut Counts,
     held: &mut Held,
     types: &mut Types,
-    r: Rest,
+    rest: Rest,
     byte: u8,
 ) -> Rest
-    ensures { λ e. ⌜ ArraysAfter (tookByte byte)
-        (now (closed .entry)) (now (counts .entry)) (now (held .entry)) (now (types .entry)) r
-        (now (closed .exit)) (now (counts .exit)) (now (held .exit)) (now (types .exit)) e ⌝ }
+    ensures { λ r. ⌜ ArraysAfter (tookByte byte)
+        (now (closed .entry)) (now (counts .entry)) (now (held .entry)) (now (types .entry)) rest
+        (now (closed .exit)) (now (counts .exit)) (now (held .exit)) (now (types .exit)) r ⌝ }
 {
     if byte == 0xfe {
-        return reply(r, r.given);
+        return reply(rest, rest.given);
     }
     if byte < 0xed {
-        return values::take_value(types, r, byte);
+        return values::take_value(types, rest, byte);
     }
-    commands::command(closed, counts, held, types, r, byte)
+    commands::command(closed, counts, held, types, rest, byte)
 }

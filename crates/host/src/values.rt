@@ -21,41 +21,41 @@ fn is_right(command: u8, value: u8) -> bool
 }
 
 // What such a value does. The types are lent.
-fn apply(types: &mut Types, r: Rest, command: u8, value: u8) -> Rest
+fn apply(types: &mut Types, rest: Rest, command: u8, value: u8) -> Rest
     requires { ⌜ rightValue command value ≡ true ⌝ }
-    ensures { λ e. ⌜ TypesAfter (valued command value) (now (types .entry)) r (now (types .exit)) e ⌝ }
+    ensures { λ r. ⌜ TypesAfter (valued command value) (now (types .entry)) rest (now (types .exit)) r ⌝ }
 {
-    let mut m = r.mode;
-    let mut e = r;
+    let mut mode = rest.mode;
+    let mut after = rest;
     if command == 0xed {
-        m.indicators = value;
-        e.mode = m;
-        return e;
+        mode.indicators = value;
+        after.mode = mode;
+        return after;
     }
     if command == 0xf0 {
-        m.set = value;
-        e.mode = m;
-        return e;
+        mode.set = value;
+        after.mode = mode;
+        return after;
     }
     if command == 0xf3 {
-        m.rate = value;
-        e.mode = m;
-        return e;
+        mode.rate = value;
+        after.mode = mode;
+        return after;
     }
     let key = lookup::in_set3(value) as usize;
     types[key] = command - 0xfb;
-    e
+    after
 }
 
 // A byte below ED: the value of the command that waits, if it is right for it.
-pub fn take_value(types: &mut Types, r: Rest, byte: u8) -> Rest
-    ensures { λ e. ⌜ TypesAfter (tookValue byte) (now (types .entry)) r (now (types .exit)) e ⌝ }
+pub fn take_value(types: &mut Types, rest: Rest, byte: u8) -> Rest
+    ensures { λ r. ⌜ TypesAfter (tookValue byte) (now (types .entry)) rest (now (types .exit)) r ⌝ }
 {
-    let command = r.waiting;
+    let command = rest.waiting;
     if !is_right(command, byte) {
-        return reply(r, 0xfe);
+        return reply(rest, 0xfe);
     }
-    let mut e = apply(types, r, command, byte);
-    e.waiting = 0;
-    reply(e, 0xfa)
+    let mut after = apply(types, rest, command, byte);
+    after.waiting = 0;
+    reply(after, 0xfa)
 }

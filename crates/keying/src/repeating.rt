@@ -28,39 +28,39 @@ fn interval_of(rate: u8) -> u8
 }
 
 // One scan less to the next repeat.
-pub fn tick(o: Outgoing) -> Outgoing
-    ensures { λ r. ⌜ r ≡ tickedOn o ⌝ }
+pub fn tick(outgoing: Outgoing) -> Outgoing
+    ensures { λ r. ⌜ r ≡ tickedOn outgoing ⌝ }
 {
-    if o.countdown == 0 {
-        return o;
+    if outgoing.countdown == 0 {
+        return outgoing;
     }
-    let mut e = o;
-    e.countdown = o.countdown - 1;
-    e
+    let mut after = outgoing;
+    after.countdown = outgoing.countdown - 1;
+    after
 }
 
 // A repeat that is due is sent if nothing waits. No flag changes.
-pub fn repeat(held: &Held, o: Outgoing, m: Mode, types: &Types, quiet: bool) -> Outgoing
-    requires { ⌜ (goodKeys (keysWith (now held) o) ≡ true) × (goodMode m ≡ true) ⌝ }
-    ensures { λ r. ⌜ keysWith (now (held .entry)) r ≡ repeated (keysWith (now (held .entry)) o) m (now (types .entry)) quiet ⌝ }
+pub fn repeat(held: &Held, outgoing: Outgoing, mode: Mode, types: &Types, quiet: bool) -> Outgoing
+    requires { ⌜ (goodKeys (keysWith (now held) outgoing) ≡ true) × (goodMode mode ≡ true) ⌝ }
+    ensures { λ r. ⌜ keysWith (now (held .entry)) r ≡ repeated (keysWith (now (held .entry)) outgoing) mode (now (types .entry)) quiet ⌝ }
 {
-    let key = o.repeating;
+    let key = outgoing.repeating;
     if key == 0 {
-        return o;
+        return outgoing;
     }
-    if o.countdown != 0 {
-        return o;
+    if outgoing.countdown != 0 {
+        return outgoing;
     }
     let kind = types[key as usize];
-    let mut e = o;
-    if !codes::rows::may_repeat(m.set, key, kind) {
-        e.repeating = 0;
-        return e;
+    let mut after = outgoing;
+    if !codes::rows::may_repeat(mode.set, key, kind) {
+        after.repeating = 0;
+        return after;
     }
-    e.countdown = interval_of(m.rate);
+    after.countdown = interval_of(mode.rate);
     if !quiet {
-        return e;
+        return after;
     }
-    e.queue = queue::holding(bytes_of(held, m, kind, key, Action::Repeat));
-    e
+    after.queue = queue::holding(bytes_of(held, mode, kind, key, Action::Repeat));
+    after
 }

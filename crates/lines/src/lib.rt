@@ -82,32 +82,32 @@ fn scan_line(
     counts: &mut Counts,
     held: &mut Held,
     types: &Types,
-    r: Rest,
+    rest: Rest,
     line: &[u8],
 ) -> SteppedRest
-    requires { ⌜ (inRange (dockWith (now map) (now closed) (now counts) (now held) (now types) r) ≡ true) × (length (now closed) ≡ 18) × (length (now counts) ≡ 144) × (length (now line) ≡ 36) × (allDigits (now line) ≡ true) ⌝ }
-    ensures { λ x. ⌜ steppedWith (now (map .entry)) (now (closed .exit)) (now (counts .exit)) (now (held .exit)) (now (types .entry)) x ≡ steppedBy (scanOf (dockWith (now (map .entry)) (now (closed .entry)) (now (counts .entry)) (now (held .entry)) (now (types .entry)) r) (bytesFrom (now (line .entry)) 0 18)) ⌝ }
+    requires { ⌜ (inRange (dockWith (now map) (now closed) (now counts) (now held) (now types) rest) ≡ true) × (length (now closed) ≡ 18) × (length (now counts) ≡ 144) × (length (now line) ≡ 36) × (allDigits (now line) ≡ true) ⌝ }
+    ensures { λ r. ⌜ steppedWith (now (map .entry)) (now (closed .exit)) (now (counts .exit)) (now (held .exit)) (now (types .entry)) r ≡ steppedBy (scanOf (dockWith (now (map .entry)) (now (closed .entry)) (now (counts .entry)) (now (held .entry)) (now (types .entry)) rest) (bytesFrom (now (line .entry)) 0 18)) ⌝ }
 {
     let scan = digits::scan_in(line);
-    let x = scan::scan_in_place(map, closed, counts, held, types, r, &scan);
-    let rest = x.rest;
-    let answer = x.answer;
+    let answered = scan::scan_in_place(map, closed, counts, held, types, rest, &scan);
+    let after = answered.rest;
+    let answer = answered.answer;
     SteppedRest {
-        rest,
+        rest: after,
         printed: answer_prints(answer),
     }
 }
 
 // An empty line: a read.
-fn read_line(held: &mut Held, types: &Types, r: Rest) -> SteppedRest
-    requires { ⌜ restInRange (now held) (now types) r ≡ true ⌝ }
-    ensures { λ x. ⌜ ((map closed counts : List ℕ) → inRange (dockWith map closed counts (now (held .entry)) (now (types .entry)) r) ≡ true → steppedWith map closed counts (now (held .exit)) (now (types .entry)) x ≡ steppedRead (readOf (dockWith map closed counts (now (held .entry)) (now (types .entry)) r))) ⌝ }
+fn read_line(held: &mut Held, types: &Types, rest: Rest) -> SteppedRest
+    requires { ⌜ restInRange (now held) (now types) rest ≡ true ⌝ }
+    ensures { λ r. ⌜ ((map closed counts : List ℕ) → inRange (dockWith map closed counts (now (held .entry)) (now (types .entry)) rest) ≡ true → steppedWith map closed counts (now (held .exit)) (now (types .entry)) r ≡ steppedRead (readOf (dockWith map closed counts (now (held .entry)) (now (types .entry)) rest))) ⌝ }
 {
-    let x = wire::read::read_in_place(held, types, r);
-    let rest = x.rest;
-    let given = x.given;
+    let answered = wire::read::read_in_place(held, types, rest);
+    let after = answered.rest;
+    let given = answered.given;
     SteppedRest {
-        rest,
+        rest: after,
         printed: read_prints(given),
     }
 }
@@ -118,18 +118,18 @@ fn frame_line(
     counts: &mut Counts,
     held: &mut Held,
     types: &mut Types,
-    r: Rest,
+    rest: Rest,
     line: &[u8],
 ) -> SteppedRest
-    requires { ⌜ (restInRange (now held) (now types) r ≡ true) × (length (now line) ≡ 3) × (allDigits (now line) ≡ true) ⌝ }
-    ensures { λ x. ⌜ ((map : List ℕ) → inRange (dockWith map (now (closed .entry)) (now (counts .entry)) (now (held .entry)) (now (types .entry)) r) ≡ true → steppedWith map (now (closed .exit)) (now (counts .exit)) (now (held .exit)) (now (types .exit)) x ≡ steppedBy (frameOf (dockWith map (now (closed .entry)) (now (counts .entry)) (now (held .entry)) (now (types .entry)) r) (frameIn (now (line .entry))))) ⌝ }
+    requires { ⌜ (restInRange (now held) (now types) rest ≡ true) × (length (now line) ≡ 3) × (allDigits (now line) ≡ true) ⌝ }
+    ensures { λ r. ⌜ ((map : List ℕ) → inRange (dockWith map (now (closed .entry)) (now (counts .entry)) (now (held .entry)) (now (types .entry)) rest) ≡ true → steppedWith map (now (closed .exit)) (now (counts .exit)) (now (held .exit)) (now (types .exit)) r ≡ steppedBy (frameOf (dockWith map (now (closed .entry)) (now (counts .entry)) (now (held .entry)) (now (types .entry)) rest) (frameIn (now (line .entry))))) ⌝ }
 {
     let number = digits::frame_in(line);
-    let x = wire::frame::frame_in_place(closed, counts, held, types, r, number);
-    let rest = x.rest;
-    let answer = x.answer;
+    let answered = wire::frame::frame_in_place(closed, counts, held, types, rest, number);
+    let after = answered.rest;
+    let answer = answered.answer;
     SteppedRest {
-        rest,
+        rest: after,
         printed: answer_prints(answer),
     }
 }
@@ -141,18 +141,18 @@ fn map_line(
     counts: &mut Counts,
     held: &mut Held,
     types: &Types,
-    r: Rest,
+    rest: Rest,
     line: &[u8],
 ) -> SteppedRest
-    requires { ⌜ (inRange (dockWith (now map) (now closed) (now counts) (now held) (now types) r) ≡ true) × (length (now line) ≡ 288) × (allDigits (now line) ≡ true) ⌝ }
-    ensures { λ x. ⌜ steppedWith (now (map .exit)) (now (closed .exit)) (now (counts .exit)) (now (held .exit)) (now (types .entry)) x ≡ steppedBy (swapOf (dockWith (now (map .entry)) (now (closed .entry)) (now (counts .entry)) (now (held .entry)) (now (types .entry)) r) (bytesFrom (now (line .entry)) 0 144)) ⌝ }
+    requires { ⌜ (inRange (dockWith (now map) (now closed) (now counts) (now held) (now types) rest) ≡ true) × (length (now line) ≡ 288) × (allDigits (now line) ≡ true) ⌝ }
+    ensures { λ r. ⌜ steppedWith (now (map .exit)) (now (closed .exit)) (now (counts .exit)) (now (held .exit)) (now (types .entry)) r ≡ steppedBy (swapOf (dockWith (now (map .entry)) (now (closed .entry)) (now (counts .entry)) (now (held .entry)) (now (types .entry)) rest) (bytesFrom (now (line .entry)) 0 144)) ⌝ }
 {
     let new = digits::map_in(line);
-    let x = swap::swap_in_place(map, closed, counts, held, types, r, &new);
-    let rest = x.rest;
-    let answer = x.answer;
+    let answered = swap::swap_in_place(map, closed, counts, held, types, rest, &new);
+    let after = answered.rest;
+    let answer = answered.answer;
     SteppedRest {
-        rest,
+        rest: after,
         printed: answer_prints(answer),
     }
 }
@@ -164,56 +164,56 @@ pub fn step_in_place(
     counts: &mut Counts,
     held: &mut Held,
     types: &mut Types,
-    r: Rest,
+    rest: Rest,
     line: &[u8],
 ) -> SteppedRest
-    requires { ⌜ (inRange (dockWith (now map) (now closed) (now counts) (now held) (now types) r) ≡ true) × (length (now closed) ≡ 18) × (length (now counts) ≡ 144) ⌝ }
-    ensures { λ x. ⌜ steppedWith (now (map .exit)) (now (closed .exit)) (now (counts .exit)) (now (held .exit)) (now (types .exit)) x ≡ stepOf (dockWith (now (map .entry)) (now (closed .entry)) (now (counts .entry)) (now (held .entry)) (now (types .entry)) r) (now (line .entry)) ⌝ }
+    requires { ⌜ (inRange (dockWith (now map) (now closed) (now counts) (now held) (now types) rest) ≡ true) × (length (now closed) ≡ 18) × (length (now counts) ≡ 144) ⌝ }
+    ensures { λ r. ⌜ steppedWith (now (map .exit)) (now (closed .exit)) (now (counts .exit)) (now (held .exit)) (now (types .exit)) r ≡ stepOf (dockWith (now (map .entry)) (now (closed .entry)) (now (counts .entry)) (now (held .entry)) (now (types .entry)) rest) (now (line .entry)) ⌝ }
 {
     let kind = text::kind_of(line);
     match kind {
-        Kind::Scan => scan_line(map, closed, counts, held, types, r, line),
-        Kind::Read => read_line(held, types, r),
-        Kind::Frame => frame_line(closed, counts, held, types, r, line),
-        Kind::Map => map_line(map, closed, counts, held, types, r, line),
+        Kind::Scan => scan_line(map, closed, counts, held, types, rest, line),
+        Kind::Read => read_line(held, types, rest),
+        Kind::Frame => frame_line(closed, counts, held, types, rest, line),
+        Kind::Map => map_line(map, closed, counts, held, types, rest, line),
         Kind::Malformed => SteppedRest {
-            rest: r,
+            rest,
             printed: Printed::RefusalLine(8),
         },
     }
 }
 
 // One line, without its newline, of any record. One out of its range is refused whatever the line is.
-pub fn step(d: Dock, line: &[u8]) -> Stepped
-    ensures { λ r. ⌜ r ≡ stepOf d (now (line .entry)) ⌝ }
+pub fn step(dock: Dock, line: &[u8]) -> Stepped
+    ensures { λ r. ⌜ r ≡ stepOf dock (now (line .entry)) ⌝ }
 {
-    if !range::in_range(d) {
+    if !range::in_range(dock) {
         return Stepped {
-            dock: d,
+            dock,
             printed: Printed::RefusalLine(9),
         };
     }
-    let contacts = d.contacts;
-    let keys = d.keys;
-    let mut map = d.map;
+    let contacts = dock.contacts;
+    let keys = dock.keys;
+    let mut map = dock.map;
     let mut closed = contacts.closed;
     let mut counts = contacts.counts;
     let mut held = keys.held;
-    let mut types = d.types;
-    let r = rest_of(d);
-    let x = step_in_place(
+    let mut types = dock.types;
+    let rest = rest_of(dock);
+    let stepped = step_in_place(
         &mut map,
         &mut closed,
         &mut counts,
         &mut held,
         &mut types,
-        r,
+        rest,
         line,
     );
-    let rest = x.rest;
-    let printed = x.printed;
+    let after = stepped.rest;
+    let printed = stepped.printed;
     Stepped {
-        dock: dock_with(map, closed, counts, held, types, rest),
+        dock: dock_with(map, closed, counts, held, types, after),
         printed,
     }
 }

@@ -27,24 +27,24 @@ fn press(
     bytes: &mut [u8; 16],
     rest: OutgoingRest,
     table: &Table,
-    m: Mode,
+    mode: Mode,
     kind: u8,
     key: u8,
 ) -> OutgoingRest
-    requires { ⌜ (goodKeys (keysFrom (now held) (now bytes) rest) ≡ true) × (goodMode m ≡ true) × (length (now bytes) ≡ 16) × (key < 144) × (now table ≡ laidOut) ⌝ }
-    ensures { λ r. ⌜ keysFrom (now (held .exit)) (now (bytes .exit)) r ≡ pressed (keysFrom (now (held .entry)) (now (bytes .entry)) rest) m kind key ⌝ }
+    requires { ⌜ (goodKeys (keysFrom (now held) (now bytes) rest) ≡ true) × (goodMode mode ≡ true) × (length (now bytes) ≡ 16) × (key < 144) × (now table ≡ laidOut) ⌝ }
+    ensures { λ r. ⌜ keysFrom (now (held .exit)) (now (bytes .exit)) r ≡ pressed (keysFrom (now (held .entry)) (now (bytes .entry)) rest) mode kind key ⌝ }
 {
-    let mut e = rest;
-    e.length = send_press(held, bytes, rest.length as usize, table, m, kind, key) as u8;
+    let mut after = rest;
+    after.length = send_press(held, bytes, rest.length as usize, table, mode, kind, key) as u8;
     held[key as usize] = 1;
-    if codes::rows::may_repeat(m.set, key, kind) {
-        e.repeating = key;
-        e.countdown = delay_of(m.rate);
-        return e;
+    if codes::rows::may_repeat(mode.set, key, kind) {
+        after.repeating = key;
+        after.countdown = delay_of(mode.rate);
+        return after;
     }
-    e.repeating = 0;
-    e.countdown = 0;
-    e
+    after.repeating = 0;
+    after.countdown = 0;
+    after
 }
 
 // A key is released.
@@ -53,21 +53,21 @@ fn release(
     bytes: &mut [u8; 16],
     rest: OutgoingRest,
     table: &Table,
-    m: Mode,
+    mode: Mode,
     kind: u8,
     key: u8,
 ) -> OutgoingRest
-    requires { ⌜ (goodKeys (keysFrom (now held) (now bytes) rest) ≡ true) × (goodMode m ≡ true) × (length (now bytes) ≡ 16) × (key < 144) × (now table ≡ laidOut) ⌝ }
-    ensures { λ r. ⌜ keysFrom (now (held .exit)) (now (bytes .exit)) r ≡ released (keysFrom (now (held .entry)) (now (bytes .entry)) rest) m kind key ⌝ }
+    requires { ⌜ (goodKeys (keysFrom (now held) (now bytes) rest) ≡ true) × (goodMode mode ≡ true) × (length (now bytes) ≡ 16) × (key < 144) × (now table ≡ laidOut) ⌝ }
+    ensures { λ r. ⌜ keysFrom (now (held .exit)) (now (bytes .exit)) r ≡ released (keysFrom (now (held .entry)) (now (bytes .entry)) rest) mode kind key ⌝ }
 {
-    let mut e = rest;
-    e.length = send_release(held, bytes, rest.length as usize, table, m, kind, key) as u8;
+    let mut after = rest;
+    after.length = send_release(held, bytes, rest.length as usize, table, mode, kind, key) as u8;
     held[key as usize] = 0;
     if rest.repeating == key {
-        e.repeating = 0;
-        e.countdown = 0;
+        after.repeating = 0;
+        after.countdown = 0;
     }
-    e
+    after
 }
 
 // The contact of a key turned, to closed (1) or to open (0).
@@ -76,22 +76,22 @@ fn contact_turned(
     bytes: &mut [u8; 16],
     rest: OutgoingRest,
     table: &Table,
-    m: Mode,
+    mode: Mode,
     types: &Types,
     key: u8,
     closed: u8,
 ) -> OutgoingRest
-    requires { ⌜ (goodKeys (keysFrom (now held) (now bytes) rest) ≡ true) × (goodMode m ≡ true) × (length (now bytes) ≡ 16) × (key ≤ lastKey) × (now table ≡ laidOut) ⌝ }
-    ensures { λ r. ⌜ keysFrom (now (held .exit)) (now (bytes .exit)) r ≡ moved (keysFrom (now (held .entry)) (now (bytes .entry)) rest) m (now (types .entry)) key closed ⌝ }
+    requires { ⌜ (goodKeys (keysFrom (now held) (now bytes) rest) ≡ true) × (goodMode mode ≡ true) × (length (now bytes) ≡ 16) × (key ≤ lastKey) × (now table ≡ laidOut) ⌝ }
+    ensures { λ r. ⌜ keysFrom (now (held .exit)) (now (bytes .exit)) r ≡ moved (keysFrom (now (held .entry)) (now (bytes .entry)) rest) mode (now (types .entry)) key closed ⌝ }
 {
     if key == 0 {
         return rest;
     }
     let kind = types[key as usize];
     if closed == 1 {
-        return press(held, bytes, rest, table, m, kind, key);
+        return press(held, bytes, rest, table, mode, kind, key);
     }
-    release(held, bytes, rest, table, m, kind, key)
+    release(held, bytes, rest, table, mode, kind, key)
 }
 
 // The contacts of a column that turned: only their rows are visited, the lowest first.
@@ -100,69 +100,80 @@ fn column(
     bytes: &mut [u8; 16],
     rest: OutgoingRest,
     table: &Table,
-    m: Mode,
+    mode: Mode,
     types: &Types,
     map: &Map,
     c: usize,
     was: u8,
     is: u8,
 ) -> OutgoingRest
-    requires { ⌜ (goodKeys (keysFrom (now held) (now bytes) rest) ≡ true) × (goodMode m ≡ true) × (length (now bytes) ≡ 16) × (c < 18) × (allUpTo lastKey (now map) ≡ true) × (now table ≡ laidOut) ⌝ }
-    ensures { λ r. ⌜ keysFrom (now (held .exit)) (now (bytes .exit)) r ≡ rowsTo 8 m (now (types .entry)) (now (map .entry)) c was is (keysFrom (now (held .entry)) (now (bytes .entry)) rest) ⌝ }
+    requires { ⌜ (goodKeys (keysFrom (now held) (now bytes) rest) ≡ true) × (goodMode mode ≡ true) × (length (now bytes) ≡ 16) × (c < 18) × (allUpTo lastKey (now map) ≡ true) × (now table ≡ laidOut) ⌝ }
+    ensures { λ r. ⌜ keysFrom (now (held .exit)) (now (bytes .exit)) r ≡ rowsTo 8 mode (now (types .entry)) (now (map .entry)) c was is (keysFrom (now (held .entry)) (now (bytes .entry)) rest) ⌝ }
 {
-    let mut e = rest;
+    let mut after = rest;
     let mut turned = (was ^ is) as u32;
     while turned != 0 {
         let r = u32::trailing_zeros(turned) as usize;
-        e = contact_turned(
+        after = contact_turned(
             held,
             bytes,
-            e,
+            after,
             table,
-            m,
+            mode,
             types,
             map[8 * c + r],
             (is >> r) % 2,
         );
         turned = turned & (turned - 1);
     }
-    e
+    after
 }
 
 // All contacts that turned, in the order of their positions.
 pub fn turns(
     held: &mut Held,
-    o: Outgoing,
-    m: Mode,
+    outgoing: Outgoing,
+    mode: Mode,
     types: &Types,
     map: &Map,
     was: &Columns,
     is: &Columns,
 ) -> Outgoing
-    requires { ⌜ (goodKeys (keysWith (now held) o) ≡ true) × (goodMode m ≡ true) × (allUpTo lastKey (now map) ≡ true) ⌝ }
-    ensures { λ r. ⌜ keysWith (now (held .exit)) r ≡ turnsTo 144 m (now (types .entry)) (now (map .entry)) (now (was .entry)) (now (is .entry)) (keysWith (now (held .entry)) o) ⌝ }
+    requires { ⌜ (goodKeys (keysWith (now held) outgoing) ≡ true) × (goodMode mode ≡ true) × (allUpTo lastKey (now map) ≡ true) ⌝ }
+    ensures { λ r. ⌜ keysWith (now (held .exit)) r ≡ turnsTo 144 mode (now (types .entry)) (now (map .entry)) (now (was .entry)) (now (is .entry)) (keysWith (now (held .entry)) outgoing) ⌝ }
 {
     let table = keys::table();
-    let q = o.queue;
-    let mut bytes = q.bytes;
-    let mut e = OutgoingRest {
-        length: q.length as u8,
-        repeating: o.repeating,
-        countdown: o.countdown,
+    let queue = outgoing.queue;
+    let mut bytes = queue.bytes;
+    let mut after = OutgoingRest {
+        length: queue.length as u8,
+        repeating: outgoing.repeating,
+        countdown: outgoing.countdown,
     };
     let mut c: usize = 0;
     while c < 18 {
         if was[c] != is[c] {
-            e = column(held, &mut bytes, e, &table, m, types, map, c, was[c], is[c]);
+            after = column(
+                held,
+                &mut bytes,
+                after,
+                &table,
+                mode,
+                types,
+                map,
+                c,
+                was[c],
+                is[c],
+            );
         }
         c += 1;
     }
     Outgoing {
         queue: Queue {
             bytes,
-            length: e.length as usize,
+            length: after.length as usize,
         },
-        repeating: e.repeating,
-        countdown: e.countdown,
+        repeating: after.repeating,
+        countdown: after.countdown,
     }
 }

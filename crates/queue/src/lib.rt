@@ -24,88 +24,88 @@ pub fn empty() -> Queue
 }
 
 // At most 16 bytes wait, and zeros stand behind them.
-pub fn is_tidy(q: Queue) -> bool
-    ensures { λ r. ⌜ r ≡ tidy q ⌝ }
+pub fn is_tidy(queue: Queue) -> bool
+    ensures { λ r. ⌜ r ≡ tidy queue ⌝ }
 {
-    let length = q.length;
+    let length = queue.length;
     let mut good = length <= 16;
     let mut i: usize = 0;
     while i < 16 {
-        good = good & ((i < length) | (q.bytes[i] == 0));
+        good = good & ((i < length) | (queue.bytes[i] == 0));
         i += 1;
     }
     good
 }
 
 // A sequence fits.
-pub fn fits(q: Queue, s: Sequence) -> bool
-    requires { ⌜ (q .length ≤ 16) × (s .length ≤ 8) ⌝ }
-    ensures { λ r. ⌜ r ≡ hasRoom (waiting q) (s .length) ⌝ }
+pub fn fits(queue: Queue, sequence: Sequence) -> bool
+    requires { ⌜ (queue .length ≤ 16) × (sequence .length ≤ 8) ⌝ }
+    ensures { λ r. ⌜ r ≡ hasRoom (waiting queue) (sequence .length) ⌝ }
 {
-    q.length + s.length <= 16
+    queue.length + sequence.length <= 16
 }
 
 // The queue with a sequence behind its bytes, or with its last byte replaced by the mark.
-pub fn pushed(q: Queue, s: Sequence, mark: u8) -> Queue
-    requires { ⌜ (tidy q ≡ true) × (s .length ≤ 8) ⌝ }
-    ensures { λ r. ⌜ r ≡ queueOf (pushedTo mark (waiting q) (contents s)) ⌝ }
+pub fn pushed(queue: Queue, sequence: Sequence, mark: u8) -> Queue
+    requires { ⌜ (tidy queue ≡ true) × (sequence .length ≤ 8) ⌝ }
+    ensures { λ r. ⌜ r ≡ queueOf (pushedTo mark (waiting queue) (contents sequence)) ⌝ }
 {
-    let at = q.length;
-    let n = s.length;
-    let mut e = q;
+    let at = queue.length;
+    let n = sequence.length;
+    let mut after = queue;
     if 16 - at < n {
-        e.bytes[at - 1] = mark;
-        return e;
+        after.bytes[at - 1] = mark;
+        return after;
     }
     let mut i: usize = 0;
     while i < n {
-        e.bytes[at + i] = s.bytes[i];
+        after.bytes[at + i] = sequence.bytes[i];
         i += 1;
     }
-    e.length = at + n;
-    e
+    after.length = at + n;
+    after
 }
 
 // The same in place: of these bytes the first `at` wait, and then as many as the answer says.
-pub fn push(bytes: &mut [u8; 16], at: usize, s: Sequence, mark: u8) -> usize
-    requires { ⌜ (tidy (queueWith (now bytes) at) ≡ true) × (s .length ≤ 8) ⌝ }
-    ensures { λ r. ⌜ queueWith (now (bytes .exit)) r ≡ queueOf (pushedTo mark (waiting (queueWith (now (bytes .entry)) at)) (contents s)) ⌝ }
+pub fn push(bytes: &mut [u8; 16], at: usize, sequence: Sequence, mark: u8) -> usize
+    requires { ⌜ (tidy (queueWith (now bytes) at) ≡ true) × (sequence .length ≤ 8) ⌝ }
+    ensures { λ r. ⌜ queueWith (now (bytes .exit)) r ≡ queueOf (pushedTo mark (waiting (queueWith (now (bytes .entry)) at)) (contents sequence)) ⌝ }
 {
-    let q = Queue {
+    let queue = Queue {
         bytes: *bytes,
         length: at,
     };
-    let e = pushed(q, s, mark);
-    let after = e.bytes;
-    *bytes = after;
-    e.length
+    let after = pushed(queue, sequence, mark);
+    let places = after.bytes;
+    *bytes = places;
+    after.length
 }
 
 // The queue without its oldest byte. Zeros stand behind the bytes as it is, and the test in the loop changes nothing: with it the
 // compiler leaves the loop as it stands, and most lines of the bench are quicker, an idle one by a tenth (docs/SPEED.md).
-pub fn popped(q: Queue) -> Queue
-    requires { ⌜ tidy q ≡ true ⌝ }
-    ensures { λ r. ⌜ r ≡ queueOf (drop 1 (waiting q)) ⌝ }
+pub fn popped(queue: Queue) -> Queue
+    requires { ⌜ tidy queue ≡ true ⌝ }
+    ensures { λ r. ⌜ r ≡ queueOf (drop 1 (waiting queue)) ⌝ }
 {
-    let n = q.length;
+    let n = queue.length;
     if n == 0 {
-        return q;
+        return queue;
     }
-    let mut e = q;
+    let mut after = queue;
     let mut i: usize = 0;
     while i < 15 {
-        e.bytes[i] = if i + 1 < n { q.bytes[i + 1] } else { 0 };
+        after.bytes[i] = if i + 1 < n { queue.bytes[i + 1] } else { 0 };
         i += 1;
     }
-    e.bytes[15] = 0;
-    e.length = n - 1;
-    e
+    after.bytes[15] = 0;
+    after.length = n - 1;
+    after
 }
 
 // The queue that holds a sequence alone.
-pub fn holding(s: Sequence) -> Queue
-    requires { ⌜ s .length ≤ 8 ⌝ }
-    ensures { λ r. ⌜ r ≡ queueOf (contents s) ⌝ }
+pub fn holding(sequence: Sequence) -> Queue
+    requires { ⌜ sequence .length ≤ 8 ⌝ }
+    ensures { λ r. ⌜ r ≡ queueOf (contents sequence) ⌝ }
 {
-    pushed(empty(), s, 0)
+    pushed(empty(), sequence, 0)
 }

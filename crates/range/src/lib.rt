@@ -23,18 +23,18 @@ pub fn all_up_to(limit: u8, list: &[u8]) -> bool
 }
 
 // A set, a rate and indicators that the host can choose.
-fn is_good_mode(m: Mode) -> bool
-    ensures { λ r. ⌜ r ≡ goodMode m ⌝ }
+fn is_good_mode(mode: Mode) -> bool
+    ensures { λ r. ⌜ r ≡ goodMode mode ⌝ }
 {
-    (1 <= m.set) & (m.set <= 3) & (m.rate <= 127) & (m.indicators <= 7)
+    (1 <= mode.set) & (mode.set <= 3) & (mode.rate <= 127) & (mode.indicators <= 7)
 }
 
 // A queue, a key or none, and a countdown that no interval outlasts.
-fn is_good_keys(k: Keys) -> bool
-    ensures { λ r. ⌜ r ≡ goodKeys k ⌝ }
+fn is_good_keys(keys: Keys) -> bool
+    ensures { λ r. ⌜ r ≡ goodKeys keys ⌝ }
 {
-    let q = k.queue;
-    queue::is_tidy(q) & (k.repeating <= keys::LAST_KEY) & (k.countdown <= 240)
+    let queue = keys.queue;
+    queue::is_tidy(queue) & (keys.repeating <= keys::LAST_KEY) & (keys.countdown <= 240)
 }
 
 // A command that takes a value.
@@ -45,15 +45,15 @@ pub fn takes_value(byte: u8) -> bool
 }
 
 // Every part is in its range: of the arrays only the map has one.
-pub fn in_range(d: Dock) -> bool
-    ensures { λ r. ⌜ r ≡ inRange d ⌝ }
+pub fn in_range(dock: Dock) -> bool
+    ensures { λ r. ⌜ r ≡ inRange dock ⌝ }
 {
-    let keys = d.keys;
-    let mode = d.mode;
-    let replies = d.replies;
-    all_up_to(keys::LAST_KEY, &d.map)
+    let keys = dock.keys;
+    let mode = dock.mode;
+    let replies = dock.replies;
+    all_up_to(keys::LAST_KEY, &dock.map)
         & is_good_keys(keys)
         & is_good_mode(mode)
         & replies::is_tidy(replies)
-        & ((d.waiting == 0) | takes_value(d.waiting))
+        & ((dock.waiting == 0) | takes_value(dock.waiting))
 }

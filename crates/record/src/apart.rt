@@ -13,45 +13,45 @@ ghost use mathlib.Core.Path.{_≡_};
 ghost use Rattle.record.specs.Apart.{outgoingOf, restOf, keysWith, dockWith};
 
 // The keys without the array.
-fn outgoing_of(k: Keys) -> Outgoing
-    ensures { λ r. ⌜ r ≡ outgoingOf k ⌝ }
+fn outgoing_of(keys: Keys) -> Outgoing
+    ensures { λ r. ⌜ r ≡ outgoingOf keys ⌝ }
 {
-    let queue = k.queue;
+    let queue = keys.queue;
     Outgoing {
         queue,
-        repeating: k.repeating,
-        countdown: k.countdown,
+        repeating: keys.repeating,
+        countdown: keys.countdown,
     }
 }
 
 // All but the arrays.
-pub fn rest_of(d: Dock) -> Rest
-    ensures { λ r. ⌜ r ≡ restOf d ⌝ }
+pub fn rest_of(dock: Dock) -> Rest
+    ensures { λ r. ⌜ r ≡ restOf dock ⌝ }
 {
-    let keys = d.keys;
-    let mode = d.mode;
-    let replies = d.replies;
+    let keys = dock.keys;
+    let mode = dock.mode;
+    let replies = dock.replies;
     Rest {
         outgoing: outgoing_of(keys),
         mode,
         replies,
-        scanning: d.scanning,
-        waiting: d.waiting,
-        handover: d.handover,
-        given: d.given,
+        scanning: dock.scanning,
+        waiting: dock.waiting,
+        handover: dock.handover,
+        given: dock.given,
     }
 }
 
 // The keys put together.
-fn keys_with(held: Held, o: Outgoing) -> Keys
-    ensures { λ r. ⌜ r ≡ keysWith held o ⌝ }
+fn keys_with(held: Held, outgoing: Outgoing) -> Keys
+    ensures { λ r. ⌜ r ≡ keysWith held outgoing ⌝ }
 {
-    let queue = o.queue;
+    let queue = outgoing.queue;
     Keys {
         held,
         queue,
-        repeating: o.repeating,
-        countdown: o.countdown,
+        repeating: outgoing.repeating,
+        countdown: outgoing.countdown,
     }
 }
 
@@ -62,13 +62,13 @@ pub fn dock_with(
     counts: Counts,
     held: Held,
     types: Types,
-    r: Rest,
+    rest: Rest,
 ) -> Dock
-    ensures { λ d. ⌜ d ≡ dockWith map closed counts held types r ⌝ }
+    ensures { λ r. ⌜ r ≡ dockWith map closed counts held types rest ⌝ }
 {
-    let outgoing = r.outgoing;
-    let mode = r.mode;
-    let replies = r.replies;
+    let outgoing = rest.outgoing;
+    let mode = rest.mode;
+    let replies = rest.replies;
     Dock {
         map,
         contacts: Contacts { closed, counts },
@@ -76,9 +76,9 @@ pub fn dock_with(
         types,
         mode,
         replies,
-        scanning: r.scanning,
-        waiting: r.waiting,
-        handover: r.handover,
-        given: r.given,
+        scanning: rest.scanning,
+        waiting: rest.waiting,
+        handover: rest.handover,
+        given: rest.given,
     }
 }

@@ -41,22 +41,22 @@ pub fn three(first: u8, second: u8, third: u8) -> Replies
 }
 
 // At most three wait, and zeros stand behind them.
-pub fn is_tidy(r: Replies) -> bool
-    ensures { λ b. ⌜ b ≡ tidyReplies r ⌝ }
+pub fn is_tidy(replies: Replies) -> bool
+    ensures { λ r. ⌜ r ≡ tidyReplies replies ⌝ }
 {
-    (r.length <= 3)
-        & ((1 <= r.length) | (r.bytes[0] == 0))
-        & ((2 <= r.length) | (r.bytes[1] == 0))
-        & ((3 <= r.length) | (r.bytes[2] == 0))
+    (replies.length <= 3)
+        & ((1 <= replies.length) | (replies.bytes[0] == 0))
+        & ((2 <= replies.length) | (replies.bytes[1] == 0))
+        & ((3 <= replies.length) | (replies.bytes[2] == 0))
 }
 
 // The replies without the oldest.
-pub fn popped(r: Replies) -> Replies
-    requires { ⌜ (tidyReplies r ≡ true) × (1 ≤ r .length) ⌝ }
-    ensures { λ e. ⌜ e ≡ repliesOf (drop 1 (waitingReplies r)) ⌝ }
+pub fn popped(replies: Replies) -> Replies
+    requires { ⌜ (tidyReplies replies ≡ true) × (1 ≤ replies .length) ⌝ }
+    ensures { λ r. ⌜ r ≡ repliesOf (drop 1 (waitingReplies replies)) ⌝ }
 {
     Replies {
-        bytes: [r.bytes[1], r.bytes[2], 0],
-        length: r.length - 1,
+        bytes: [replies.bytes[1], replies.bytes[2], 0],
+        length: replies.length - 1,
     }
 }

@@ -20,10 +20,10 @@ ghost use Rattle.dock.specs.Closing.{restInRange, HeldAfter};
 ghost use Rattle.dock.specs.Scan.{listening, counting, changed, repeating, heardScan, scanOf};
 
 // Scans are listened to.
-fn is_listening(r: Rest) -> bool
-    ensures { λ b. ⌜ ((map closed counts held types : List ℕ) → b ≡ listening (dockWith map closed counts held types r)) ⌝ }
+fn is_listening(rest: Rest) -> bool
+    ensures { λ r. ⌜ ((map closed counts held types : List ℕ) → r ≡ listening (dockWith map closed counts held types rest)) ⌝ }
 {
-    r.scanning & (r.waiting == 0) & !r.handover
+    rest.scanning & (rest.waiting == 0) & !rest.handover
 }
 
 // A counted scan.
@@ -33,20 +33,20 @@ fn count(
     counts: &mut Counts,
     held: &mut Held,
     types: &Types,
-    r: Rest,
+    rest: Rest,
     scan: &[u8],
 ) -> Rest
-    requires { ⌜ (inRange (dockWith (now map) (now closed) (now counts) (now held) (now types) r) ≡ true) × (length (now closed) ≡ 18) × (length (now counts) ≡ 144) × (length (now scan) ≡ 18) ⌝ }
-    ensures { λ e. ⌜ dockWith (now (map .entry)) (now (closed .exit)) (now (counts .exit)) (now (held .exit)) (now (types .entry)) e ≡ counting (dockWith (now (map .entry)) (now (closed .entry)) (now (counts .entry)) (now (held .entry)) (now (types .entry)) r) (now (scan .entry)) ⌝ }
+    requires { ⌜ (inRange (dockWith (now map) (now closed) (now counts) (now held) (now types) rest) ≡ true) × (length (now closed) ≡ 18) × (length (now counts) ≡ 144) × (length (now scan) ≡ 18) ⌝ }
+    ensures { λ r. ⌜ dockWith (now (map .entry)) (now (closed .exit)) (now (counts .exit)) (now (held .exit)) (now (types .entry)) r ≡ counting (dockWith (now (map .entry)) (now (closed .entry)) (now (counts .entry)) (now (held .entry)) (now (types .entry)) rest) (now (scan .entry)) ⌝ }
 {
     let was = *closed;
     contacts::count(closed, counts, scan);
-    let o = r.outgoing;
-    let m = r.mode;
-    let turned = moves::turns(held, o, m, types, map, &was, closed);
-    let mut e = r;
-    e.outgoing = turned;
-    e
+    let outgoing = rest.outgoing;
+    let mode = rest.mode;
+    let turned = moves::turns(held, outgoing, mode, types, map, &was, closed);
+    let mut after = rest;
+    after.outgoing = turned;
+    after
 }
 
 // What a scan changes. One that shows what counts, while no row of scans is under way, changes nothing, phantom or not.
@@ -56,35 +56,35 @@ fn change(
     counts: &mut Counts,
     held: &mut Held,
     types: &Types,
-    r: Rest,
+    rest: Rest,
     scan: &[u8],
 ) -> Rest
-    requires { ⌜ (inRange (dockWith (now map) (now closed) (now counts) (now held) (now types) r) ≡ true) × (length (now closed) ≡ 18) × (length (now counts) ≡ 144) × (length (now scan) ≡ 18) ⌝ }
-    ensures { λ e. ⌜ dockWith (now (map .entry)) (now (closed .exit)) (now (counts .exit)) (now (held .exit)) (now (types .entry)) e ≡ changed (dockWith (now (map .entry)) (now (closed .entry)) (now (counts .entry)) (now (held .entry)) (now (types .entry)) r) (now (scan .entry)) ⌝ }
+    requires { ⌜ (inRange (dockWith (now map) (now closed) (now counts) (now held) (now types) rest) ≡ true) × (length (now closed) ≡ 18) × (length (now counts) ≡ 144) × (length (now scan) ≡ 18) ⌝ }
+    ensures { λ r. ⌜ dockWith (now (map .entry)) (now (closed .exit)) (now (counts .exit)) (now (held .exit)) (now (types .entry)) r ≡ changed (dockWith (now (map .entry)) (now (closed .entry)) (now (counts .entry)) (now (held .entry)) (now (types .entry)) rest) (now (scan .entry)) ⌝ }
 {
     if contacts::at_rest(closed, counts, scan) {
-        return r;
+        return rest;
     }
     if phantom::is_phantom(scan) {
-        return r;
+        return rest;
     }
-    count(map, closed, counts, held, types, r, scan)
+    count(map, closed, counts, held, types, rest, scan)
 }
 
 // The repeat, after the scan's changes.
-fn repeat(held: &Held, types: &Types, r: Rest) -> Rest
-    requires { ⌜ restInRange (now held) (now types) r ≡ true ⌝ }
-    ensures { λ e. ⌜ HeldAfter repeating (now (held .entry)) (now (types .entry)) r (now (held .entry)) e ⌝ }
+fn repeat(held: &Held, types: &Types, rest: Rest) -> Rest
+    requires { ⌜ restInRange (now held) (now types) rest ≡ true ⌝ }
+    ensures { λ r. ⌜ HeldAfter repeating (now (held .entry)) (now (types .entry)) rest (now (held .entry)) r ⌝ }
 {
-    let replies = r.replies;
-    let o = r.outgoing;
-    let q = o.queue;
-    let quiet = (replies.length == 0) & (q.length == 0);
-    let m = r.mode;
-    let repeated = keying::repeating::repeat(held, o, m, types, quiet);
-    let mut e = r;
-    e.outgoing = repeated;
-    e
+    let replies = rest.replies;
+    let outgoing = rest.outgoing;
+    let queue = outgoing.queue;
+    let quiet = (replies.length == 0) & (queue.length == 0);
+    let mode = rest.mode;
+    let repeated = keying::repeating::repeat(held, outgoing, mode, types, quiet);
+    let mut after = rest;
+    after.outgoing = repeated;
+    after
 }
 
 // A scan that is listened to: one scan less to the next repeat, then its changes, then the repeat.
@@ -94,16 +94,16 @@ fn hear(
     counts: &mut Counts,
     held: &mut Held,
     types: &Types,
-    r: Rest,
+    rest: Rest,
     scan: &[u8],
 ) -> Rest
-    requires { ⌜ (inRange (dockWith (now map) (now closed) (now counts) (now held) (now types) r) ≡ true) × (length (now closed) ≡ 18) × (length (now counts) ≡ 144) × (length (now scan) ≡ 18) ⌝ }
-    ensures { λ e. ⌜ dockWith (now (map .entry)) (now (closed .exit)) (now (counts .exit)) (now (held .exit)) (now (types .entry)) e ≡ heardScan (dockWith (now (map .entry)) (now (closed .entry)) (now (counts .entry)) (now (held .entry)) (now (types .entry)) r) (now (scan .entry)) ⌝ }
+    requires { ⌜ (inRange (dockWith (now map) (now closed) (now counts) (now held) (now types) rest) ≡ true) × (length (now closed) ≡ 18) × (length (now counts) ≡ 144) × (length (now scan) ≡ 18) ⌝ }
+    ensures { λ r. ⌜ dockWith (now (map .entry)) (now (closed .exit)) (now (counts .exit)) (now (held .exit)) (now (types .entry)) r ≡ heardScan (dockWith (now (map .entry)) (now (closed .entry)) (now (counts .entry)) (now (held .entry)) (now (types .entry)) rest) (now (scan .entry)) ⌝ }
 {
-    let o = r.outgoing;
-    let mut e = r;
-    e.outgoing = keying::repeating::tick(o);
-    let changed = change(map, closed, counts, held, types, e, scan);
+    let outgoing = rest.outgoing;
+    let mut after = rest;
+    after.outgoing = keying::repeating::tick(outgoing);
+    let changed = change(map, closed, counts, held, types, after, scan);
     repeat(held, types, changed)
 }
 
@@ -114,26 +114,26 @@ pub fn scan_in_place(
     counts: &mut Counts,
     held: &mut Held,
     types: &Types,
-    r: Rest,
+    rest: Rest,
     scan: &[u8],
 ) -> AnsweredRest
-    requires { ⌜ (inRange (dockWith (now map) (now closed) (now counts) (now held) (now types) r) ≡ true) × (length (now closed) ≡ 18) × (length (now counts) ≡ 144) ⌝ }
-    ensures { λ x. ⌜ answeredWith (now (map .entry)) (now (closed .exit)) (now (counts .exit)) (now (held .exit)) (now (types .entry)) x ≡ scanOf (dockWith (now (map .entry)) (now (closed .entry)) (now (counts .entry)) (now (held .entry)) (now (types .entry)) r) (now (scan .entry)) ⌝ }
+    requires { ⌜ (inRange (dockWith (now map) (now closed) (now counts) (now held) (now types) rest) ≡ true) × (length (now closed) ≡ 18) × (length (now counts) ≡ 144) ⌝ }
+    ensures { λ r. ⌜ answeredWith (now (map .entry)) (now (closed .exit)) (now (counts .exit)) (now (held .exit)) (now (types .entry)) r ≡ scanOf (dockWith (now (map .entry)) (now (closed .entry)) (now (counts .entry)) (now (held .entry)) (now (types .entry)) rest) (now (scan .entry)) ⌝ }
 {
     if scan.len() != 18 {
         return AnsweredRest {
             answer: Answer::ScanLength,
-            rest: r,
+            rest,
         };
     }
-    if !is_listening(r) {
+    if !is_listening(rest) {
         return AnsweredRest {
             answer: Answer::Accepted,
-            rest: close_in_place(held, types, r),
+            rest: close_in_place(held, types, rest),
         };
     }
     AnsweredRest {
         answer: Answer::Accepted,
-        rest: hear(map, closed, counts, held, types, r, scan),
+        rest: hear(map, closed, counts, held, types, rest, scan),
     }
 }

@@ -54,35 +54,35 @@ fn num_lock(indicators: u8) -> bool
 }
 
 // The bytes that an action of a key sends.
-pub fn bytes_of(held: &Held, m: Mode, kind: u8, key: u8, action: Action) -> Sequence
-    ensures { λ r. ⌜ r ≡ holding (sendsWith (now (held .entry)) m kind key action) ⌝ }
+pub fn bytes_of(held: &Held, mode: Mode, kind: u8, key: u8, action: Action) -> Sequence
+    ensures { λ r. ⌜ r ≡ holding (sendsWith (now (held .entry)) mode kind key action) ⌝ }
 {
     strokes::sequence_of(
-        m.set,
+        mode.set,
         key,
         action,
         kind,
         modifiers_of(held),
-        num_lock(m.indicators),
+        num_lock(mode.indicators),
     )
 }
 
 // The same by a key table at hand. A key of one form does not ask what else is held.
-fn bytes_in(held: &Held, table: &Table, m: Mode, kind: u8, key: u8, action: Action) -> Sequence
+fn bytes_in(held: &Held, table: &Table, mode: Mode, kind: u8, key: u8, action: Action) -> Sequence
     requires { ⌜ now table ≡ laidOut ⌝ }
-    ensures { λ r. ⌜ r ≡ holding (sendsWith (now (held .entry)) m kind key action) ⌝ }
+    ensures { λ r. ⌜ r ≡ holding (sendsWith (now (held .entry)) mode kind key action) ⌝ }
 {
-    if !forms::has_forms(m.set, key) {
-        return codes::plain::plain_sequence(table, m.set, key, action, kind);
+    if !forms::has_forms(mode.set, key) {
+        return codes::plain::plain_sequence(table, mode.set, key, action, kind);
     }
     strokes::sequence_in(
         table,
-        m.set,
+        mode.set,
         key,
         action,
         kind,
         modifiers_of(held),
-        num_lock(m.indicators),
+        num_lock(mode.indicators),
     )
 }
 
@@ -94,11 +94,11 @@ fn mark_of(set: u8) -> u8
 }
 
 // The queue with a sequence behind it, or with the overrun mark.
-pub fn queued(q: Queue, m: Mode, s: Sequence) -> Queue
-    requires { ⌜ (tidy q ≡ true) × (s .length ≤ 8) ⌝ }
-    ensures { λ r. ⌜ r ≡ queuedOf q m (contents s) ⌝ }
+pub fn queued(queue: Queue, mode: Mode, sequence: Sequence) -> Queue
+    requires { ⌜ (tidy queue ≡ true) × (sequence .length ≤ 8) ⌝ }
+    ensures { λ r. ⌜ r ≡ queuedOf queue mode (contents sequence) ⌝ }
 {
-    queue::pushed(q, s, mark_of(m.set))
+    queue::pushed(queue, sequence, mark_of(mode.set))
 }
 
 // A release that sends nothing: that of PAUSE, which sent all on its press, and in set 3 those of keys whose type sends none. It is
@@ -133,19 +133,19 @@ pub fn send_press(
     bytes: &mut [u8; 16],
     at: usize,
     table: &Table,
-    m: Mode,
+    mode: Mode,
     kind: u8,
     key: u8,
 ) -> usize
     requires { ⌜ (tidy (queueWith (now bytes) at) ≡ true) × (length (now bytes) ≡ 16) × (now table ≡ laidOut) ⌝ }
-    ensures { λ r. ⌜ queueWith (now (bytes .exit)) r ≡ queuedOf (queueWith (now (bytes .entry)) at) m (sendsWith (now (held .entry)) m kind key Press) ⌝ }
+    ensures { λ r. ⌜ queueWith (now (bytes .exit)) r ≡ queuedOf (queueWith (now (bytes .entry)) at) mode (sendsWith (now (held .entry)) mode kind key Press) ⌝ }
 {
     if at == 16 {
-        bytes[15] = mark_of(m.set);
+        bytes[15] = mark_of(mode.set);
         return 16;
     }
-    let s = bytes_in(held, table, m, kind, key, Action::Press);
-    queue::push(bytes, at, s, mark_of(m.set))
+    let sequence = bytes_in(held, table, mode, kind, key, Action::Press);
+    queue::push(bytes, at, sequence, mark_of(mode.set))
 }
 
 // What a release sends, likewise: nothing changes if it is silent, and where the shortest has no room the mark is put.
@@ -154,20 +154,20 @@ pub fn send_release(
     bytes: &mut [u8; 16],
     at: usize,
     table: &Table,
-    m: Mode,
+    mode: Mode,
     kind: u8,
     key: u8,
 ) -> usize
-    requires { ⌜ (tidy (queueWith (now bytes) at) ≡ true) × (length (now bytes) ≡ 16) × (goodMode m ≡ true) × (now table ≡ laidOut) ⌝ }
-    ensures { λ r. ⌜ queueWith (now (bytes .exit)) r ≡ queuedOf (queueWith (now (bytes .entry)) at) m (sendsWith (now (held .entry)) m kind key Release) ⌝ }
+    requires { ⌜ (tidy (queueWith (now bytes) at) ≡ true) × (length (now bytes) ≡ 16) × (goodMode mode ≡ true) × (now table ≡ laidOut) ⌝ }
+    ensures { λ r. ⌜ queueWith (now (bytes .exit)) r ≡ queuedOf (queueWith (now (bytes .entry)) at) mode (sendsWith (now (held .entry)) mode kind key Release) ⌝ }
 {
-    if is_silent(m.set, key, kind) {
+    if is_silent(mode.set, key, kind) {
         return at;
     }
-    if 16 - at < shortest_release(m.set) {
-        bytes[at - 1] = mark_of(m.set);
+    if 16 - at < shortest_release(mode.set) {
+        bytes[at - 1] = mark_of(mode.set);
         return at;
     }
-    let s = bytes_in(held, table, m, kind, key, Action::Release);
-    queue::push(bytes, at, s, mark_of(m.set))
+    let sequence = bytes_in(held, table, mode, kind, key, Action::Release);
+    queue::push(bytes, at, sequence, mark_of(mode.set))
 }

@@ -20,23 +20,23 @@ ghost use Rattle.dock.specs.Answers.{answeredWith};
 ghost use Rattle.dock.specs.Swap.{remapped, swapOf};
 
 // The first swap drops contact history and the repeating key, and a handover opens. While one is open nothing but the map is replaced.
-fn open_handover(closed: &mut Columns, counts: &mut Counts, r: Rest) -> Rest
-    ensures { λ e. ⌜ ((map held types new : List ℕ) → dockWith new (now (closed .exit)) (now (counts .exit)) held types e ≡ remapped (dockWith map (now (closed .entry)) (now (counts .entry)) held types r) new) ⌝ }
+fn open_handover(closed: &mut Columns, counts: &mut Counts, rest: Rest) -> Rest
+    ensures { λ r. ⌜ ((map held types new : List ℕ) → dockWith new (now (closed .exit)) (now (counts .exit)) held types r ≡ remapped (dockWith map (now (closed .entry)) (now (counts .entry)) held types rest) new) ⌝ }
 {
-    if r.handover {
-        return r;
+    if rest.handover {
+        return rest;
     }
     let no_columns = [0; 18];
     let no_counts = [0; 144];
     *closed = no_columns;
     *counts = no_counts;
-    let mut o = r.outgoing;
-    o.repeating = 0;
-    o.countdown = 0;
-    let mut e = r;
-    e.outgoing = o;
-    e.handover = true;
-    e
+    let mut outgoing = rest.outgoing;
+    outgoing.repeating = 0;
+    outgoing.countdown = 0;
+    let mut after = rest;
+    after.outgoing = outgoing;
+    after.handover = true;
+    after
 }
 
 // The swap call in place, of a record in its range.
@@ -46,35 +46,35 @@ pub fn swap_in_place(
     counts: &mut Counts,
     held: &mut Held,
     types: &Types,
-    r: Rest,
+    rest: Rest,
     new: &[u8],
 ) -> AnsweredRest
-    requires { ⌜ inRange (dockWith (now map) (now closed) (now counts) (now held) (now types) r) ≡ true ⌝ }
-    ensures { λ x. ⌜ answeredWith (now (map .exit)) (now (closed .exit)) (now (counts .exit)) (now (held .exit)) (now (types .entry)) x ≡ swapOf (dockWith (now (map .entry)) (now (closed .entry)) (now (counts .entry)) (now (held .entry)) (now (types .entry)) r) (now (new .entry)) ⌝ }
+    requires { ⌜ inRange (dockWith (now map) (now closed) (now counts) (now held) (now types) rest) ≡ true ⌝ }
+    ensures { λ r. ⌜ answeredWith (now (map .exit)) (now (closed .exit)) (now (counts .exit)) (now (held .exit)) (now (types .entry)) r ≡ swapOf (dockWith (now (map .entry)) (now (closed .entry)) (now (counts .entry)) (now (held .entry)) (now (types .entry)) rest) (now (new .entry)) ⌝ }
 {
     if new.len() != 144 {
         return AnsweredRest {
             answer: Answer::MapLength,
-            rest: r,
+            rest,
         };
     }
-    let m = copied(new);
-    if !range::all_up_to(keys::LAST_KEY, &m) {
+    let copy = copied(new);
+    if !range::all_up_to(keys::LAST_KEY, &copy) {
         return AnsweredRest {
             answer: Answer::MapEntry,
-            rest: r,
+            rest,
         };
     }
-    if has_double(&m) {
+    if has_double(&copy) {
         return AnsweredRest {
             answer: Answer::MapDouble,
-            rest: r,
+            rest,
         };
     }
-    *map = m;
-    let e = open_handover(closed, counts, r);
+    *map = copy;
+    let opened = open_handover(closed, counts, rest);
     AnsweredRest {
         answer: Answer::Accepted,
-        rest: go_on(held, types, e),
+        rest: go_on(held, types, opened),
     }
 }

@@ -26,27 +26,27 @@ pub fn frame_in_place(
     counts: &mut Counts,
     held: &mut Held,
     types: &mut Types,
-    r: Rest,
+    rest: Rest,
     number: u32,
 ) -> AnsweredRest
-    requires { ⌜ restInRange (now held) (now types) r ≡ true ⌝ }
-    ensures { λ x. ⌜ ((map : List ℕ) → inRange (dockWith map (now (closed .entry)) (now (counts .entry)) (now (held .entry)) (now (types .entry)) r) ≡ true → answeredWith map (now (closed .exit)) (now (counts .exit)) (now (held .exit)) (now (types .exit)) x ≡ frameOf (dockWith map (now (closed .entry)) (now (counts .entry)) (now (held .entry)) (now (types .entry)) r) number) ⌝ }
+    requires { ⌜ restInRange (now held) (now types) rest ≡ true ⌝ }
+    ensures { λ r. ⌜ ((map : List ℕ) → inRange (dockWith map (now (closed .entry)) (now (counts .entry)) (now (held .entry)) (now (types .entry)) rest) ≡ true → answeredWith map (now (closed .exit)) (now (counts .exit)) (now (held .exit)) (now (types .exit)) r ≡ frameOf (dockWith map (now (closed .entry)) (now (counts .entry)) (now (held .entry)) (now (types .entry)) rest) number) ⌝ }
 {
     let unpacked = frames::unpack(number);
     match unpacked {
         Unpacked::TooLarge => AnsweredRest {
             answer: Answer::FrameNumber,
-            rest: r,
+            rest,
         },
         Unpacked::Broken => AnsweredRest {
             answer: Answer::Accepted,
-            rest: close_in_place(held, types, reply(r, 0xfe)),
+            rest: close_in_place(held, types, reply(rest, 0xfe)),
         },
         Unpacked::Byte(byte) => {
-            let e = take(closed, counts, held, types, r, byte);
+            let after = take(closed, counts, held, types, rest, byte);
             AnsweredRest {
                 answer: Answer::Accepted,
-                rest: close_in_place(held, types, e),
+                rest: close_in_place(held, types, after),
             }
         }
     }

@@ -17,65 +17,65 @@ ghost use Rattle.dock.specs.Closing.{restInRange};
 ghost use Rattle.dock.specs.Read.{remembering, replyTaken, keyByteTaken, readOf};
 
 // A byte was given.
-fn remember(r: Rest, byte: u8) -> Rest
-    ensures { λ e. ⌜ RestAfter (λ (d : Dock). remembering d byte) r e ⌝ }
+fn remember(rest: Rest, byte: u8) -> Rest
+    ensures { λ r. ⌜ RestAfter (λ (d : Dock). remembering d byte) rest r ⌝ }
 {
     if byte == 0xfe {
-        return r;
+        return rest;
     }
-    let mut e = r;
-    e.given = byte;
-    e
+    let mut after = rest;
+    after.given = byte;
+    after
 }
 
 // The oldest reply.
-fn take_reply(held: &mut Held, types: &Types, r: Rest) -> TakenRest
-    requires { ⌜ (restInRange (now held) (now types) r ≡ true) × (1 ≤ r .replies .length) ⌝ }
-    ensures { λ x. ⌜ ((map closed counts : List ℕ) → takenWith map closed counts (now (held .exit)) (now (types .entry)) x ≡ replyTaken (dockWith map closed counts (now (held .entry)) (now (types .entry)) r)) ⌝ }
+fn take_reply(held: &mut Held, types: &Types, rest: Rest) -> TakenRest
+    requires { ⌜ (restInRange (now held) (now types) rest ≡ true) × (1 ≤ rest .replies .length) ⌝ }
+    ensures { λ r. ⌜ ((map closed counts : List ℕ) → takenWith map closed counts (now (held .exit)) (now (types .entry)) r ≡ replyTaken (dockWith map closed counts (now (held .entry)) (now (types .entry)) rest)) ⌝ }
 {
-    let q = r.replies;
-    let byte = q.bytes[0];
-    let mut e = r;
-    e.replies = replies::popped(q);
+    let replies = rest.replies;
+    let byte = replies.bytes[0];
+    let mut after = rest;
+    after.replies = replies::popped(replies);
     TakenRest {
         given: Given::Reply(byte),
-        rest: close_in_place(held, types, remember(e, byte)),
+        rest: close_in_place(held, types, remember(after, byte)),
     }
 }
 
 // The oldest key byte.
-fn take_key_byte(held: &mut Held, types: &Types, r: Rest) -> TakenRest
-    requires { ⌜ (restInRange (now held) (now types) r ≡ true) × (1 ≤ r .outgoing .queue .length) ⌝ }
-    ensures { λ x. ⌜ ((map closed counts : List ℕ) → takenWith map closed counts (now (held .exit)) (now (types .entry)) x ≡ keyByteTaken (dockWith map closed counts (now (held .entry)) (now (types .entry)) r)) ⌝ }
+fn take_key_byte(held: &mut Held, types: &Types, rest: Rest) -> TakenRest
+    requires { ⌜ (restInRange (now held) (now types) rest ≡ true) × (1 ≤ rest .outgoing .queue .length) ⌝ }
+    ensures { λ r. ⌜ ((map closed counts : List ℕ) → takenWith map closed counts (now (held .exit)) (now (types .entry)) r ≡ keyByteTaken (dockWith map closed counts (now (held .entry)) (now (types .entry)) rest)) ⌝ }
 {
-    let mut o = r.outgoing;
-    let q = o.queue;
-    let byte = q.bytes[0];
-    o.queue = queue::popped(q);
-    let mut e = r;
-    e.outgoing = o;
+    let mut outgoing = rest.outgoing;
+    let queue = outgoing.queue;
+    let byte = queue.bytes[0];
+    outgoing.queue = queue::popped(queue);
+    let mut after = rest;
+    after.outgoing = outgoing;
     TakenRest {
         given: Given::KeyByte(byte),
-        rest: close_in_place(held, types, remember(e, byte)),
+        rest: close_in_place(held, types, remember(after, byte)),
     }
 }
 
 // The read call in place, of a record in its range, whatever the map and the contacts are.
-pub fn read_in_place(held: &mut Held, types: &Types, r: Rest) -> TakenRest
-    requires { ⌜ restInRange (now held) (now types) r ≡ true ⌝ }
-    ensures { λ x. ⌜ ((map closed counts : List ℕ) → inRange (dockWith map closed counts (now (held .entry)) (now (types .entry)) r) ≡ true → takenWith map closed counts (now (held .exit)) (now (types .entry)) x ≡ readOf (dockWith map closed counts (now (held .entry)) (now (types .entry)) r)) ⌝ }
+pub fn read_in_place(held: &mut Held, types: &Types, rest: Rest) -> TakenRest
+    requires { ⌜ restInRange (now held) (now types) rest ≡ true ⌝ }
+    ensures { λ r. ⌜ ((map closed counts : List ℕ) → inRange (dockWith map closed counts (now (held .entry)) (now (types .entry)) rest) ≡ true → takenWith map closed counts (now (held .exit)) (now (types .entry)) r ≡ readOf (dockWith map closed counts (now (held .entry)) (now (types .entry)) rest)) ⌝ }
 {
-    let replies = r.replies;
+    let replies = rest.replies;
     if replies.length != 0 {
-        return take_reply(held, types, r);
+        return take_reply(held, types, rest);
     }
-    let o = r.outgoing;
-    let q = o.queue;
-    if q.length != 0 {
-        return take_key_byte(held, types, r);
+    let outgoing = rest.outgoing;
+    let queue = outgoing.queue;
+    if queue.length != 0 {
+        return take_key_byte(held, types, rest);
     }
     TakenRest {
         given: Given::Nothing,
-        rest: close_in_place(held, types, r),
+        rest: close_in_place(held, types, rest),
     }
 }

@@ -14,7 +14,7 @@ run-in-place-requires : tie.Need-run-in-place-requires
 run-in-place-requires c κs =
     let rest = c .before .before .before .before .before .before in
     let s = c .before .before .before .before .before .before .before .before .before .before .before .before .before .before .before .before in
-    let d = s .args .d in
+    let d = s .args .dock in
     -- Of what is known of the parameters: the contacts' arrays have their sizes.
     let contacts = s .good .0 .1 .1 .1 .0 in (
       s .pre .1,

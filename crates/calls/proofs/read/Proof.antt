@@ -26,7 +26,7 @@ read-in-place-requires c κs =
     let rest = c .before .before in
     let looked = rest .before .before .before .before .before .before .before .before in
     let s = looked .before .before in
-    let d = s .args .d in
+    let d = s .args .dock in
     let known = apart-in-range d _ _ (rest .rest-of .ensures) (looked .before .in-range .ensures) (not-false _ (looked .if1 .left)) in
     rest-in-range (d .map) (d .contacts .closed) (d .contacts .counts) (d .keys .held) (d .types) _ known
 
@@ -39,7 +39,7 @@ returns-2 c =
     let rest = c .before .before .before .before .before in
     let looked = rest .before .before .before .before .before .before .before .before in
     let a = looked .before .before .args in
-    let d = a .d in
+    let d = a .dock in
     put-together Taken (λ (e : Dock). taken (x .result .given) e) readOf d _ _ _ (rest .rest-of .ensures) (c .dock-with .ensures)
     (x .ensures (d .map) (d .contacts .closed) (d .contacts .counts) (apart-in-range d _ _ (rest .rest-of .ensures) (looked .before .in-range .ensures) (not-false _ (looked .if1 .left))))
 

@@ -26,7 +26,7 @@ scan-in-place-requires c κs =
     let rest = c .before .before .before .before .before in
     let looked = rest .before .before .before .before .before .before .before .before in
     let s = looked .before .before .before in
-    let d = s .args .d in
+    let d = s .args .dock in
     let known = apart-in-range d _ _ (rest .rest-of .ensures) (looked .before .in-range .ensures) (not-false _ (looked .if1 .left)) in
     -- Of what is known of the parameters: the contacts' arrays have their sizes.
     let contacts = s .good .0 .1 .1 .1 .0 in
@@ -41,7 +41,7 @@ returns-2 c =
     let rest = c .before .before .before .before .before .before .before .before in
     let looked = rest .before .before .before .before .before .before .before .before in
     let a = looked .before .before .before .args in
-    let d = a .d in
+    let d = a .dock in
     put-together Answered (λ (e : Dock). answered (x .result .answer) e) (λ (e : Dock). scanOf e (a .scan .now)) d _ _ _ (rest .rest-of .ensures) (c .dock-with .ensures)
     (x .ensures)
 

@@ -19,14 +19,14 @@ returns c = λ map.
     let l = c .before in
     let o = l .before .before in
     let a = o .before .before .before .before .before .args in
-    command-waits (a .byte) (dockWith map (a .closed .now) (a .counts .now) (a .held .now) (a .types .now) (a .r)) _ _ (o .obey .ensures map) (l .before .reply-to .ensures) _ (l .takes-value .ensures) (c .if1 .taken)
+    command-waits (a .byte) (dockWith map (a .closed .now) (a .counts .now) (a .held .now) (a .types .now) (a .rest)) _ _ (o .obey .ensures map) (l .before .reply-to .ensures) _ (l .takes-value .ensures) (c .if1 .taken)
 
 returns-2 : tie.Need-returns-2
 returns-2 c = λ map.
     let l = c .before in
     let o = l .before .before in
     let a = o .before .before .before .before .before .args in
-    command-done (a .byte) (dockWith map (a .closed .now) (a .counts .now) (a .held .now) (a .types .now) (a .r)) _ _ (o .obey .ensures map) (l .before .reply-to .ensures) _ (l .takes-value .ensures) (c .if1 .left)
+    command-done (a .byte) (dockWith map (a .closed .now) (a .counts .now) (a .held .now) (a .types .now) (a .rest)) _ _ (o .obey .ensures map) (l .before .reply-to .ensures) _ (l .takes-value .ensures) (c .if1 .left)
 
 pub command-spec : {M : Type 1} → statement M
 command-spec =

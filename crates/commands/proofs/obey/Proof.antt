@@ -64,24 +64,24 @@ returns-6 : tie.Need-returns-6
 returns-6 c = λ map.
     let a = c .before .before .before .before .before .args in
     c .set-all-types .ensures map (a .closed .now) (a .counts .now) (a .held .now)
-    ∙ obeyed-types (a .byte) (dockWith map (a .closed .now) (a .counts .now) (a .held .now) (a .types .now) (a .r)) (omega arith) (omega arith)
+    ∙ obeyed-types (a .byte) (dockWith map (a .closed .now) (a .counts .now) (a .held .now) (a .types .now) (a .rest)) (omega arith) (omega arith)
 
 returns-7 : tie.Need-returns-7
 returns-7 c = λ map.
     let a = c .before .before .before .before .before .args in
     c .clear .ensures map (a .closed .now) (a .counts .now) (a .held .now) (a .types .now)
-    ∙ obeyed-key-type (a .byte) (dockWith map (a .closed .now) (a .counts .now) (a .held .now) (a .types .now) (a .r)) (omega arith) (omega arith) (omega arith)
+    ∙ obeyed-key-type (a .byte) (dockWith map (a .closed .now) (a .counts .now) (a .held .now) (a .types .now) (a .rest)) (omega arith) (omega arith) (omega arith)
 
 returns-8 : tie.Need-returns-8
 returns-8 c = λ map.
     let n = c .before .match .rest in
     let a = c .before .before .args in
-    obeyed-below (a .byte) (dockWith map (a .closed .now) (a .counts .now) (a .held .now) (a .types .now) (a .r)) (omega arith) (n .0 .0 .0 .0 .1) (n .0 .0 .0 .1) (n .0 .0 .1) (n .0 .1)
+    obeyed-below (a .byte) (dockWith map (a .closed .now) (a .counts .now) (a .held .now) (a .types .now) (a .rest)) (omega arith) (n .0 .0 .0 .0 .1) (n .0 .0 .0 .1) (n .0 .0 .1) (n .0 .1)
 
 returns-9 : tie.Need-returns-9
 returns-9 c = λ map.
     let a = c .before .before .before .before .args in
-    obeyed-above (a .byte) (dockWith map (a .closed .now) (a .counts .now) (a .held .now) (a .types .now) (a .r)) (omega arith) (omega arith) (omega arith) (c .before .before .before .match .rest .1)
+    obeyed-above (a .byte) (dockWith map (a .closed .now) (a .counts .now) (a .held .now) (a .types .now) (a .rest)) (omega arith) (omega arith) (omega arith) (c .before .before .before .match .rest .1)
 
 pub obey-spec : {M : Type 1} → statement M
 obey-spec =

@@ -12,7 +12,7 @@ quieten-requires c κs = search needs
 
 returns : tie.Need-returns
 returns c = λ map closed counts held types.
-    let m = c .before .before .args .r .mode in
+    let m = c .before .before .args .rest .mode in
     ap (λ (d : Dock). withMode d (record { set = m .set; rate = defaultRate; indicators = m .indicators }))
     (c .quieten .ensures map closed counts held types)
 

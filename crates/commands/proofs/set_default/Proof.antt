@@ -18,7 +18,7 @@ quieten-requires c κs = search needs
 returns : tie.Need-returns
 returns c = λ map closed counts held.
     let a = c .before .before .before .args in
-    ap₂ (λ (d : Dock) (types : List ℕ). withTypes (withMode d (record { set = 2; rate = defaultRate; indicators = a .r .mode .indicators })) types)
+    ap₂ (λ (d : Dock) (types : List ℕ). withTypes (withMode d (record { set = 2; rate = defaultRate; indicators = a .rest .mode .indicators })) types)
     (c .quieten .ensures map closed counts held (a .types .now)) (c .before .default-types .ensures)
 
 pub set-default-spec : {M : Type 1} → statement M

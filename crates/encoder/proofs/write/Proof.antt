@@ -25,7 +25,7 @@ array-read-out c = omega arith
 
 slice-write-out : tie.Need-slice-write-out Inv-loop μ-loop
 slice-write-out c =
-    let b = c .before .before .before .args .s .bytes in
+    let b = c .before .before .before .args .sequence .bytes in
     let g : length b ≡ 8 = search needs in
     omega (arith, written-length b _ _ (c .before .loop .i) (c .before .loop .inv .1) (omega arith) (omega arith))
 
@@ -37,13 +37,13 @@ loop-less c = omega arith
 
 loop-again : tie.Need-loop-again Inv-loop μ-loop
 loop-again c =
-    let b = c .before .before .before .args .s .bytes in
+    let b = c .before .before .before .args .sequence .bytes in
     let g : length b ≡ 8 = search needs in
     (omega arith, written-more b _ _ (c .before .loop .i) (c .before .loop .inv .1) (omega arith) (omega arith))
 
 same-length : tie.Need-same-length Inv-loop μ-loop
 same-length c =
-    let b = c .before .before .before .args .s .bytes in
+    let b = c .before .before .before .args .sequence .bytes in
     let g : length b ≡ 8 = search needs in
     written-length b _ _ (c .before .loop .i) (c .before .loop .inv .1) (omega arith) (omega arith)
 
@@ -51,7 +51,7 @@ returns : tie.Need-returns Inv-loop μ-loop
 returns c =
     let a = c .before .before .before .args in
     c .before .loop .inv .1
-    ∙ ap (λ (k : ℕ). take k (a .s .bytes) ++ drop k (a .out .now)) (le-antisymm (c .before .loop .inv .0) (c .loop-test .left))
+    ∙ ap (λ (k : ℕ). take k (a .sequence .bytes) ++ drop k (a .out .now)) (le-antisymm (c .before .loop .inv .0) (c .loop-test .left))
 
 pub write-spec : {M : Type 1} → statement M
 write-spec =

@@ -24,7 +24,7 @@ abbrev μ-loop : tie.MeasureT-loop
 μ-loop held₀ m types e₀ key₀ held e key = suc lastKey - key
 
 loop-holds : tie.Need-loop-holds Inv-loop μ-loop
-loop-holds c = (omega arith, begins _ _ (keysWith (c .args .held .now) (c .args .o)) (c .pre .0))
+loop-holds c = (omega arith, begins _ _ (keysWith (c .args .held .now) (c .args .outgoing)) (c .pre .0))
 
 cast-if1 : tie.Need-cast-if1 Inv-loop μ-loop
 cast-if1 c = omega arith
@@ -45,8 +45,8 @@ fits-requires : tie.Need-fits-requires Inv-loop μ-loop
 unfolding sends
 fits-requires c κs =
     let l = c .before .before .before .before .before .before .before in
-    let k = keysWith (l .loop .held) (l .loop .e) in
-    (tidy-short _ (good-keys-queue k (l .loop .inv .1 .good)), sequence-short k (l .before .args .m) _ _ Release _ (c .before .bytes-of .ensures))
+    let k = keysWith (l .loop .held) (l .loop .after) in
+    (tidy-short _ (good-keys-queue k (l .loop .inv .1 .good)), sequence-short k (l .before .args .mode) _ _ Release _ (c .before .bytes-of .ensures))
 
 returns : tie.Need-returns Inv-loop μ-loop
 unfolding sends
@@ -56,7 +56,7 @@ returns c =
     let i = b .before .before .before in
     let l = i .before .before .before in
     let a = l .before .args in
-    waits (a .m) (a .types .now) (keysWith (a .held .now) (a .o)) (l .loop .key) (keysWith (l .loop .held) (l .loop .e)) (l .loop .inv .1)
+    waits (a .mode) (a .types .now) (keysWith (a .held .now) (a .outgoing)) (l .loop .key) (keysWith (l .loop .held) (l .loop .after)) (l .loop .inv .1)
     (i .before .before .loop-test .taken) (i .if1 .taken) _ _ (b .bytes-of .ensures) (f .fits2 .ensures) (not-true _ (c .if2 .taken))
 
 release-with-requires : tie.Need-release-with-requires Inv-loop μ-loop
@@ -64,8 +64,8 @@ unfolding sends
 release-with-requires c κs =
     let b = c .before .before .before .before in
     let l = b .before .before .before .before .before .before in
-    let k = keysWith (l .loop .held) (l .loop .e) in
-    (l .loop .inv .1 .good, omega arith, sequence-short k (l .before .args .m) _ _ Release _ (b .bytes-of .ensures))
+    let k = keysWith (l .loop .held) (l .loop .after) in
+    (l .loop .inv .1 .good, omega arith, sequence-short k (l .before .args .mode) _ _ Release _ (b .bytes-of .ensures))
 
 add-key : tie.Need-add-key Inv-loop μ-loop
 add-key c = omega arith
@@ -79,12 +79,12 @@ loop-again c =
     let l = c .before .before .before in
     let a = l .before .args in
     let t = c .before .before .loop-test .taken in
-    let all = keysWith (a .held .now) (a .o) in
-    let k = keysWith (l .loop .held) (l .loop .e) in
-    let again : Going (a .m) (a .types .now) all (l .loop .key + 1) (keysWith (c .if1 .held) (c .if1 .e)) = ⊎-elim
-    (λ w. leaves (a .m) (a .types .now) all (l .loop .key) k (l .loop .inv .1) t (w .0 .taken) _ _ (w .3 .ensures) (w .5 .ensures)
+    let all = keysWith (a .held .now) (a .outgoing) in
+    let k = keysWith (l .loop .held) (l .loop .after) in
+    let again : Going (a .mode) (a .types .now) all (l .loop .key + 1) (keysWith (c .if1 .held) (c .if1 .after)) = ⊎-elim
+    (λ w. leaves (a .mode) (a .types .now) all (l .loop .key) k (l .loop .inv .1) t (w .0 .taken) _ _ (w .3 .ensures) (w .5 .ensures)
     (not-false _ (w .6 .left)) _ (ap₂ keysWith (w .9) (w .10) ∙ w .8 .ensures))
-    (λ w. passes (a .m) (a .types .now) all (l .loop .key) k (l .loop .inv .1) t _ (w .0 .left) (ap₂ keysWith (w .1) (w .2)))
+    (λ w. passes (a .mode) (a .types .now) all (l .loop .key) k (l .loop .inv .1) t _ (w .0 .left) (ap₂ keysWith (w .1) (w .2)))
     (c .if1 .came) in
     (omega arith, again)
 
@@ -92,7 +92,7 @@ returns-2 : tie.Need-returns-2 Inv-loop μ-loop
 returns-2 c =
     let l = c .before in
     let a = l .before .args in
-    ends (a .m) (a .types .now) (keysWith (a .held .now) (a .o)) (l .loop .key) (keysWith (l .loop .held) (l .loop .e)) (l .loop .inv .1)
+    ends (a .mode) (a .types .now) (keysWith (a .held .now) (a .outgoing)) (l .loop .key) (keysWith (l .loop .held) (l .loop .after)) (l .loop .inv .1)
     (c .loop-test .left) (l .loop .inv .0)
 
 pub hand-over-spec : {M : Type 1} → statement M

@@ -11,7 +11,7 @@ use Rattle.handover.proofs.release_with.Tie as tie
 queued-requires : tie.Need-queued-requires
 queued-requires c κs =
     let a = c .before .args in
-    (good-keys-queue (keysWith (a .held .now) (a .o)) (c .before .pre .0), c .before .pre .2)
+    (good-keys-queue (keysWith (a .held .now) (a .outgoing)) (c .before .pre .0), c .before .pre .2)
 
 let-go-requires : tie.Need-let-go-requires
 let-go-requires c κs = search needs
@@ -20,7 +20,7 @@ returns : tie.Need-returns
 unfolding releasedWith
 returns c =
     let a = c .before .before .before .before .args in
-    c .let-go .ensures ∙ ap (λ (q : Queue). letGo (keysWith (a .held .now) (a .o)) (a .key) q) (c .before .before .queued .ensures)
+    c .let-go .ensures ∙ ap (λ (q : Queue). letGo (keysWith (a .held .now) (a .outgoing)) (a .key) q) (c .before .before .queued .ensures)
 
 pub release-with-spec : {M : Type 1} → statement M
 release-with-spec = tie.close (tie.spec queued-requires let-go-requires returns)

@@ -13,7 +13,7 @@ returns : tie.Need-returns
 returns c = λ map.
     let a = c .before .before .args in
     c .reply .ensures map (a .closed .now) (a .counts .now) (a .held .now) (a .types .now)
-    ∙ took-resend (a .byte) (dockWith map (a .closed .now) (a .counts .now) (a .held .now) (a .types .now) (a .r)) (c .before .if1 .taken)
+    ∙ took-resend (a .byte) (dockWith map (a .closed .now) (a .counts .now) (a .held .now) (a .types .now) (a .rest)) (c .before .if1 .taken)
 
 take-value-requires : tie.Need-take-value-requires
 take-value-requires c κs = search needs
@@ -23,7 +23,7 @@ returns-2 c = λ map.
     let small = c .before .before in
     let a = small .before .before .args in
     c .take-value .ensures map (a .closed .now) (a .counts .now) (a .held .now)
-    ∙ took-value (a .byte) (dockWith map (a .closed .now) (a .counts .now) (a .held .now) (a .types .now) (a .r)) (small .if2 .taken)
+    ∙ took-value (a .byte) (dockWith map (a .closed .now) (a .counts .now) (a .held .now) (a .types .now) (a .rest)) (small .if2 .taken)
 
 command-requires : tie.Need-command-requires
 command-requires c κs = search needs
@@ -32,7 +32,7 @@ returns-3 : tie.Need-returns-3
 returns-3 c = λ map.
     let large = c .before .before .before .before .before in
     let a = large .before .before .args in
-    c .command .ensures map ∙ took-command (a .byte) (dockWith map (a .closed .now) (a .counts .now) (a .held .now) (a .types .now) (a .r)) (large .if2 .left) (large .before .if1 .left)
+    c .command .ensures map ∙ took-command (a .byte) (dockWith map (a .closed .now) (a .counts .now) (a .held .now) (a .types .now) (a .rest)) (large .if2 .left) (large .before .if1 .left)
 
 pub take-spec : {M : Type 1} → statement M
 take-spec =

@@ -24,7 +24,7 @@ returns c = λ map known.
     let digits = c .before .before .before .before .before .before .before in
     let a = digits .before .before .args in
     answer-steps (answeredWith map (x .last .0) (x .last .1 .0) (x .last .1 .1 .0) (x .last .1 .1 .1 .0) (x .result)) _ _
-    (x .ensures map known ∙ ap (λ (n : ℕ). frameOf (dockWith map (a .closed .now) (a .counts .now) (a .held .now) (a .types .now) (a .r)) n) (digits .frame-in .ensures))
+    (x .ensures map known ∙ ap (λ (n : ℕ). frameOf (dockWith map (a .closed .now) (a .counts .now) (a .held .now) (a .types .now) (a .rest)) n) (digits .frame-in .ensures))
     (c .answer-prints .ensures)
 
 pub frame-line-spec : {M : Type 1} → statement M

@@ -28,7 +28,7 @@ returns c =
     let digits = c .before .before .before .before .before .before .before .before in
     let a = digits .before .before .args in
     answer-steps (answeredWith (x .last .0) (x .last .1 .0) (x .last .1 .1 .0) (x .last .1 .1 .1 .0) (a .types .now) (x .result)) _ _
-    (x .ensures ∙ ap (λ (m : List ℕ). swapOf (dockWith (a .map .now) (a .closed .now) (a .counts .now) (a .held .now) (a .types .now) (a .r)) m) (digits .map-in .ensures))
+    (x .ensures ∙ ap (λ (m : List ℕ). swapOf (dockWith (a .map .now) (a .closed .now) (a .counts .now) (a .held .now) (a .types .now) (a .rest)) m) (digits .map-in .ensures))
     (c .answer-prints .ensures)
 
 pub map-line-spec : {M : Type 1} → statement M

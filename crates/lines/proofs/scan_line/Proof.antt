@@ -28,7 +28,7 @@ returns c =
     let digits = c .before .before .before .before .before .before .before in
     let a = digits .before .before .args in
     answer-steps (answeredWith (a .map .now) (x .last .1 .0) (x .last .1 .1 .0) (x .last .1 .1 .1 .0) (a .types .now) (x .result)) _ _
-    (x .ensures ∙ ap (λ (s : List ℕ). scanOf (dockWith (a .map .now) (a .closed .now) (a .counts .now) (a .held .now) (a .types .now) (a .r)) s) (digits .scan-in .ensures))
+    (x .ensures ∙ ap (λ (s : List ℕ). scanOf (dockWith (a .map .now) (a .closed .now) (a .counts .now) (a .held .now) (a .types .now) (a .rest)) s) (digits .scan-in .ensures))
     (c .answer-prints .ensures)
 
 pub scan-line-spec : {M : Type 1} → statement M

@@ -25,7 +25,7 @@ step-in-place-requires c κs =
     let rest = c .before .before .before .before .before in
     let looked = rest .before .before .before .before .before .before .before .before in
     let s = looked .before .before .before in
-    let known = apart-in-range (s .args .d) _ _ (rest .rest-of .ensures) (looked .before .in-range .ensures) (not-false _ (looked .if1 .left)) in
+    let known = apart-in-range (s .args .dock) _ _ (rest .rest-of .ensures) (looked .before .in-range .ensures) (not-false _ (looked .if1 .left)) in
     -- Of what is known of the parameters: the contacts' arrays have their sizes.
     let contacts = s .good .0 .1 .1 .1 .0 in
     (known, search (needs, contacts), search (needs, contacts))
@@ -39,7 +39,7 @@ returns-2 c =
     let rest = c .before .before .before .before .before .before .before .before in
     let looked = rest .before .before .before .before .before .before .before .before in
     let a = looked .before .before .before .args in
-    let d = a .d in
+    let d = a .dock in
     put-together Stepped (λ (e : Dock). stepped e (x .result .printed)) (λ (e : Dock). stepOf e (a .line .now)) d _ _ _ (rest .rest-of .ensures) (c .dock-with .ensures)
     (x .ensures)
 

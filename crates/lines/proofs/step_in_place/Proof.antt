@@ -28,7 +28,7 @@ read-line-requires : tie.Need-read-line-requires
 read-line-requires c κs =
     let s = c .before .before .before .before .before .before in
     let a = s .args in
-    rest-in-range (a .map .now) (a .closed .now) (a .counts .now) (a .held .now) (a .types .now) (a .r) (s .pre .0)
+    rest-in-range (a .map .now) (a .closed .now) (a .counts .now) (a .held .now) (a .types .now) (a .rest) (s .pre .0)
 
 enum-told-3 : tie.Need-enum-told-3
 enum-told-3 c = search needs
@@ -39,7 +39,7 @@ frame-line-requires c κs =
     let s = told .before .before .before .before in
     let a = s .args in
     let is = frame-is (a .line .now) (sym (told .before .before .kind-of .ensures) ∙ told .enum-told3 .given .1) in
-    (rest-in-range (a .map .now) (a .closed .now) (a .counts .now) (a .held .now) (a .types .now) (a .r) (s .pre .0), is .0, is .1)
+    (rest-in-range (a .map .now) (a .closed .now) (a .counts .now) (a .held .now) (a .types .now) (a .rest) (s .pre .0), is .0, is .1)
 
 enum-told-4 : tie.Need-enum-told-4
 enum-told-4 c = search needs

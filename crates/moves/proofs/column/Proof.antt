@@ -34,7 +34,7 @@ cast-turned c =
 loop-holds : tie.Need-loop-holds Inv-loop μ-loop
 loop-holds c =
     let a = c .args in
-    let all = rows-are (a .m) (a .types .now) (a .map .now) (a .c) (a .is) (a .was) (keysFrom (a .held .now) (a .bytes .now) (a .rest)) in
+    let all = rows-are (a .mode) (a .types .now) (a .map .now) (a .c) (a .is) (a .was) (keysFrom (a .held .now) (a .bytes .now) (a .rest)) in
     (xor-lt 8 (a .was) (a .is) (omega arith) (omega arith), c .pre .0, c .pre .2, all)
 
 cast-r : tie.Need-cast-r Inv-loop μ-loop
@@ -78,16 +78,16 @@ loop-again c =
     let p = l .before .pre in
     let t = l .loop .turned in
     let i = l .loop .inv in
-    let e = keysFrom (l .loop .held) (l .loop .bytes) (l .loop .e) in
+    let e = keysFrom (l .loop .held) (l .loop .bytes) (l .loop .after) in
     let after = c .contact-turned .ensures in
-    let good = ap goodKeys after ∙ moved-good (a .m) (p .1) (a .types .now) _ _ (up-to-at lastKey _ _ (p .4)) e (i .1) in
-    let places = ap (λ (k : Keys). length (k .queue .bytes)) after ∙ moved-bytes (a .m) (a .types .now) _ _ (up-to-at lastKey _ _ (p .4)) e (i .2) in
+    let good = ap goodKeys after ∙ moved-good (a .mode) (p .1) (a .types .now) _ _ (up-to-at lastKey _ _ (p .4)) e (i .1) in
+    let places = ap (λ (k : Keys). length (k .queue .bytes)) after ∙ moved-bytes (a .mode) (a .types .now) _ _ (up-to-at lastKey _ _ (p .4)) e (i .2) in
     (omega (arith, fewer t (omega arith)), good, places, row-moved _ _ _ _ _ _ e t (i .3) (omega arith) (i .0) _ after)
 
 returns : tie.Need-returns Inv-loop μ-loop
 returns c =
     let l = c .before .loop in
-    rows-done _ _ _ _ _ _ (keysFrom (l .held) (l .bytes) (l .e)) (l .turned) (l .inv .3) (omega arith)
+    rows-done _ _ _ _ _ _ (keysFrom (l .held) (l .bytes) (l .after)) (l .turned) (l .inv .3) (omega arith)
 
 pub column-spec : {M : Type 1} → statement M
 column-spec =

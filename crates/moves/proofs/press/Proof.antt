@@ -20,8 +20,8 @@ send-press-requires c κs =
     let a = s .args in
     (good-keys-queue (keysFrom (a .held .now) (a .bytes .now) (a .rest)) (s .pre .0), s .pre .2, s .pre .4)
 
-cast-e : tie.Need-cast-e
-cast-e c =
+cast-after : tie.Need-cast-after
+cast-after c =
     let s = c .before .before .before .before in
     let a = s .args in
     let k = keysFrom (a .held .now) (a .bytes .now) (a .rest) in
@@ -42,7 +42,7 @@ unfolding sends
 returns c =
     let m = c .before .before in
     let a = m .before .before .before .before .before .args in
-    pressed-to-repeat (keysFrom (a .held .now) (a .bytes .now) (a .rest)) (a .m) (a .kind) (a .key) _ (m .before .send-press .ensures) _ (m .may-repeat .ensures)
+    pressed-to-repeat (keysFrom (a .held .now) (a .bytes .now) (a .rest)) (a .mode) (a .kind) (a .key) _ (m .before .send-press .ensures) _ (m .may-repeat .ensures)
     (c .before .if1 .taken) _ (c .delay-of .ensures)
 
 returns-2 : tie.Need-returns-2
@@ -50,7 +50,7 @@ unfolding sends
 returns-2 c =
     let m = c .before in
     let a = m .before .before .before .before .before .args in
-    pressed-once (keysFrom (a .held .now) (a .bytes .now) (a .rest)) (a .m) (a .kind) (a .key) _ (m .before .send-press .ensures) _ (m .may-repeat .ensures)
+    pressed-once (keysFrom (a .held .now) (a .bytes .now) (a .rest)) (a .mode) (a .kind) (a .key) _ (m .before .send-press .ensures) _ (m .may-repeat .ensures)
     (c .if1 .left)
 
 pub press-spec : {M : Type 1} → statement M
@@ -59,7 +59,7 @@ press-spec =
     (tie.spec
     cast-send-press
     send-press-requires
-    cast-e
+    cast-after
     element-write-held
     may-repeat-requires
     delay-of-requires

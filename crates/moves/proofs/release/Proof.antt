@@ -20,8 +20,8 @@ send-release-requires c κs =
     let a = s .args in
     (good-keys-queue (keysFrom (a .held .now) (a .bytes .now) (a .rest)) (s .pre .0), s .pre .2, s .pre .1, s .pre .4)
 
-cast-e : tie.Need-cast-e
-cast-e c =
+cast-after : tie.Need-cast-after
+cast-after c =
     let s = c .before .before .before .before in
     let a = s .args in
     let k = keysFrom (a .held .now) (a .bytes .now) (a .rest) in
@@ -36,16 +36,16 @@ unfolding sends
 returns c =
     let r = c .before .before in
     let a = r .before .before .before .before .args in
-    released-repeats (keysFrom (a .held .now) (a .bytes .now) (a .rest)) (a .m) (a .kind) (a .key) _ (r .send-release .ensures) (c .if1 .taken)
+    released-repeats (keysFrom (a .held .now) (a .bytes .now) (a .rest)) (a .mode) (a .kind) (a .key) _ (r .send-release .ensures) (c .if1 .taken)
 
 returns-2 : tie.Need-returns-2
 unfolding sends
 returns-2 c =
     let r = c .before .before in
     let a = r .before .before .before .before .args in
-    released-only (keysFrom (a .held .now) (a .bytes .now) (a .rest)) (a .m) (a .kind) (a .key) _ (r .send-release .ensures) (c .if1 .left)
+    released-only (keysFrom (a .held .now) (a .bytes .now) (a .rest)) (a .mode) (a .kind) (a .key) _ (r .send-release .ensures) (c .if1 .left)
 
 pub release-spec : {M : Type 1} → statement M
 release-spec =
     tie.close
-    (tie.spec cast-send-release send-release-requires cast-e element-write-held returns returns-2)
+    (tie.spec cast-send-release send-release-requires cast-after element-write-held returns returns-2)

@@ -32,11 +32,11 @@ table-requires c κs = search needs
 cast-t14 : tie.Need-cast-t14 Inv-loop μ-loop
 cast-t14 c =
     let s = c .before .before .before .before in
-    omega (arith, tidy-short _ (good-keys-queue (keysWith (s .args .held .now) (s .args .o)) (s .pre .0)))
+    omega (arith, tidy-short _ (good-keys-queue (keysWith (s .args .held .now) (s .args .outgoing)) (s .pre .0)))
 
 loop-holds : tie.Need-loop-holds Inv-loop μ-loop
 loop-holds c =
-    let places : length (c .before .before .before .before .args .o .queue .bytes) ≡ 16 = search needs in
+    let places : length (c .before .before .before .before .args .outgoing .queue .bytes) ≡ 16 = search needs in
     (omega arith, places, turns-none _ _ _ _ _ _)
 
 element-copy-out-if1 : tie.Need-element-copy-out-if1 Inv-loop μ-loop
@@ -58,10 +58,10 @@ column-requires c κs =
     let s = l .before .before .before .before .before in
     let p = s .pre in
     let a = s .args in
-    let k = keysWith (a .held .now) (a .o) in
-    let good = ap goodKeys (l .loop .inv .2) ∙ turns-good (a .m) (p .1) (a .types .now) (a .map .now) (p .2) _ (a .was .now) (a .is .now) k (p .0) in
+    let k = keysWith (a .held .now) (a .outgoing) in
+    let good = ap goodKeys (l .loop .inv .2) ∙ turns-good (a .mode) (p .1) (a .types .now) (a .map .now) (p .2) _ (a .was .now) (a .is .now) k (p .0) in
     let kept = ap (λ (x : Keys). length (x .queue .bytes)) (l .loop .inv .2)
-    ∙ turns-bytes (a .m) (a .types .now) (a .map .now) (p .2) _ (a .was .now) (a .is .now) k (l .loop .inv .1) in
+    ∙ turns-bytes (a .mode) (a .types .now) (a .map .now) (p .2) _ (a .was .now) (a .is .now) k (l .loop .inv .1) in
     (good, p .1, kept, t .loop-test .taken, p .2, l .before .before .before .before .table .ensures)
 
 add-c : tie.Need-add-c Inv-loop μ-loop
@@ -75,9 +75,9 @@ loop-again c =
     let l = c .before .before .before .before in
     let a = l .before .before .before .before .before .args in
     let i = l .loop .inv .2 in
-    let k = keysWith (a .held .now) (a .o) in
-    let e = keysFrom (l .loop .held) (l .loop .bytes) (l .loop .e) in
-    let again : keysFrom (c .if1 .held) (c .if1 .bytes) (c .if1 .e) ≡ turnsTo (8 * (l .loop .c + 1)) (a .m) (a .types .now) (a .map .now) (a .was .now) (a .is .now) k = ⊎-elim
+    let k = keysWith (a .held .now) (a .outgoing) in
+    let e = keysFrom (l .loop .held) (l .loop .bytes) (l .loop .after) in
+    let again : keysFrom (c .if1 .held) (c .if1 .bytes) (c .if1 .after) ≡ turnsTo (8 * (l .loop .c + 1)) (a .mode) (a .types .now) (a .map .now) (a .was .now) (a .is .now) k = ⊎-elim
     (λ w. column-turns _ _ _ _ _ k (l .loop .c) e i _ (keys-from-same _ _ _ _ _ _ (w .7) (w .8) (w .9) ∙ w .6 .ensures))
     (λ w. column-stays _ _ _ _ _ k (l .loop .c) e i _ (w .0 .left) (keys-from-same _ _ _ _ _ _ (w .1) (w .2) (w .3)))
     (c .if1 .came) in
@@ -90,7 +90,7 @@ returns : tie.Need-returns Inv-loop μ-loop
 returns c =
     let l = c .before .before .loop in
     let a = c .before .before .before .before .before .before .before .args in
-    turns-all _ _ _ _ _ (keysWith (a .held .now) (a .o)) _ (keysFrom (l .held) (l .bytes) (l .e)) (l .inv .2) (l .inv .0) (c .before .loop-test .left)
+    turns-all _ _ _ _ _ (keysWith (a .held .now) (a .outgoing)) _ (keysFrom (l .held) (l .bytes) (l .after)) (l .inv .2) (l .inv .0) (c .before .loop-test .left)
 
 pub turns-spec : {M : Type 1} → statement M
 turns-spec =

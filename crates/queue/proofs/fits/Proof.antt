@@ -14,8 +14,8 @@ add-result c = search needs
 returns : tie.Need-returns
 returns c =
     let a = c .before .before .args in
-    let places : length (a .q .bytes) ≡ 16 = search needs in
-    ap (λ (n : ℕ). leb (n + a .s .length) 16) (sym (count-waiting (a .q) places (c .before .before .pre .0)))
+    let places : length (a .queue .bytes) ≡ 16 = search needs in
+    ap (λ (n : ℕ). leb (n + a .sequence .length) 16) (sym (count-waiting (a .queue) places (c .before .before .pre .0)))
 
 pub fits-spec : {M : Type 1} → statement M
 fits-spec = tie.close (tie.spec add-result returns)

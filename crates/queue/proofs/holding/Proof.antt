@@ -18,7 +18,7 @@ pushed-requires c κs = (ap tidy (c .empty .ensures) ∙ tidy-queueOf [] (omega 
 
 returns : tie.Need-returns
 returns c =
-    let s = c .before .before .args .s in
+    let s = c .before .before .args .sequence in
     let places : length (s .bytes) ≡ 8 = search needs in
     c .pushed .ensures ∙ pushed-alone _ s 0 (c .before .empty .ensures) (c .before .before .pre) places
 

@@ -28,14 +28,14 @@ loop-holds c = (omega arith, moved-none _)
 add-if2 : tie.Need-add-if2 Inv-loop μ-loop
 add-if2 c = omega arith
 
-add-e : tie.Need-add-e Inv-loop μ-loop
-add-e c = omega arith
+add-after : tie.Need-add-after Inv-loop μ-loop
+add-after c = omega arith
 
-element-copy-out-e : tie.Need-element-copy-out-e Inv-loop μ-loop
-element-copy-out-e c = omega arith
+element-copy-out-after : tie.Need-element-copy-out-after Inv-loop μ-loop
+element-copy-out-after c = omega arith
 
-element-write-e : tie.Need-element-write-e Inv-loop μ-loop
-element-write-e c = omega arith
+element-write-after : tie.Need-element-write-after Inv-loop μ-loop
+element-write-after c = omega arith
 
 add-i : tie.Need-add-i Inv-loop μ-loop
 add-i c = omega arith
@@ -49,14 +49,14 @@ loop-again c =
     let q = s .args .t1 in
     let l = c .before .before .loop in
     let places : length (q .bytes) ≡ 16 = search needs in
-    let byte : c .if2 .e ≡ getD (q .bytes) (l .i + 1) 0 = ⊎-elim (λ w. w .2) (λ w. w .1 ∙ zero-past q (s .pre) (l .i + 1) (w .0 .left)) (c .if2 .came) in
-    (omega arith, moved-more (q .bytes) (l .e .bytes) (l .i) (c .if2 .e) (l .inv .1) byte (omega arith))
+    let byte : c .if2 .after ≡ getD (q .bytes) (l .i + 1) 0 = ⊎-elim (λ w. w .2) (λ w. w .1 ∙ zero-past q (s .pre) (l .i + 1) (w .0 .left)) (c .if2 .came) in
+    (omega arith, moved-more (q .bytes) (l .after .bytes) (l .i) (c .if2 .after) (l .inv .1) byte (omega arith))
 
-element-write-e-2 : tie.Need-element-write-e-2 Inv-loop μ-loop
-element-write-e-2 c = search needs
+element-write-after-2 : tie.Need-element-write-after-2 Inv-loop μ-loop
+element-write-after-2 c = search needs
 
-sub-e : tie.Need-sub-e Inv-loop μ-loop
-sub-e c = omega arith
+sub-after : tie.Need-sub-after Inv-loop μ-loop
+sub-after c = omega arith
 
 returns-2 : tie.Need-returns-2 Inv-loop μ-loop
 returns-2 c =
@@ -73,12 +73,12 @@ popped-spec =
     returns
     loop-holds
     add-if2
-    add-e
-    element-copy-out-e
-    element-write-e
+    add-after
+    element-copy-out-after
+    element-write-after
     add-i
     loop-less
     loop-again
-    element-write-e-2
-    sub-e
+    element-write-after-2
+    sub-after
     returns-2)

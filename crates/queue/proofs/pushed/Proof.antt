@@ -20,30 +20,30 @@ abbrev μ-loop : tie.MeasureT-loop
 sub-if1 : tie.Need-sub-if1 Inv-loop μ-loop
 sub-if1 c = omega (arith, tidy-short _ (c .pre .0))
 
-sub-e : tie.Need-sub-e Inv-loop μ-loop
-sub-e c = omega arith
+sub-after : tie.Need-sub-after Inv-loop μ-loop
+sub-after c = omega arith
 
-element-write-e : tie.Need-element-write-e Inv-loop μ-loop
-element-write-e c = omega (arith, tidy-short _ (c .before .pre .0))
+element-write-after : tie.Need-element-write-after Inv-loop μ-loop
+element-write-after c = omega (arith, tidy-short _ (c .before .pre .0))
 
 returns : tie.Need-returns Inv-loop μ-loop
 returns c =
     let a = c .before .args in
-    let places : length (a .q .bytes) ≡ 16 = search needs in
+    let places : length (a .queue .bytes) ≡ 16 = search needs in
     let places-s : length (a .t2 .bytes) ≡ 8 = search needs in
-    pushed-by-marking (a .q) (c .before .pre .0) places (a .t2) (c .before .pre .1) places-s (a .mark) (omega arith)
+    pushed-by-marking (a .queue) (c .before .pre .0) places (a .t2) (c .before .pre .1) places-s (a .mark) (omega arith)
 
 loop-holds : tie.Need-loop-holds Inv-loop μ-loop
-loop-holds c = (omega arith, paste-zero (c .before .args .q .bytes) (c .before .args .q .length) (c .before .args .t2 .bytes))
+loop-holds c = (omega arith, paste-zero (c .before .args .queue .bytes) (c .before .args .queue .length) (c .before .args .t2 .bytes))
 
-element-copy-out-e : tie.Need-element-copy-out-e Inv-loop μ-loop
-element-copy-out-e c = omega arith
+element-copy-out-after : tie.Need-element-copy-out-after Inv-loop μ-loop
+element-copy-out-after c = omega arith
 
-add-e : tie.Need-add-e Inv-loop μ-loop
-add-e c = omega arith
+add-after : tie.Need-add-after Inv-loop μ-loop
+add-after c = omega arith
 
-element-write-e-2 : tie.Need-element-write-e-2 Inv-loop μ-loop
-element-write-e-2 c = omega (arith, tidy-short _ (c .before .before .before .before .pre .0))
+element-write-after-2 : tie.Need-element-write-after-2 Inv-loop μ-loop
+element-write-after-2 c = omega (arith, tidy-short _ (c .before .before .before .before .pre .0))
 
 add-i : tie.Need-add-i Inv-loop μ-loop
 add-i c = omega arith
@@ -55,23 +55,23 @@ loop-again : tie.Need-loop-again Inv-loop μ-loop
 loop-again c =
     let a = c .before .before .before .before .args in
     let l = c .before .before .loop in
-    let short = tidy-short (a .q) (c .before .before .before .before .pre .0) in
-    let places : length (a .q .bytes) ≡ 16 = search needs in
+    let short = tidy-short (a .queue) (c .before .before .before .before .pre .0) in
+    let places : length (a .queue .bytes) ≡ 16 = search needs in
     let places-s : length (a .t2 .bytes) ≡ 8 = search needs in
-    (omega arith, copy-more (a .q .bytes) (l .e .bytes) (a .t2 .bytes) (a .q .length) (l .i) (l .inv .1) (omega arith) (omega arith))
+    (omega arith, copy-more (a .queue .bytes) (l .after .bytes) (a .t2 .bytes) (a .queue .length) (l .i) (l .inv .1) (omega arith) (omega arith))
 
-add-e-2 : tie.Need-add-e-2 Inv-loop μ-loop
-add-e-2 c = omega (arith, tidy-short _ (c .before .before .before .pre .0))
+add-after-2 : tie.Need-add-after-2 Inv-loop μ-loop
+add-after-2 c = omega (arith, tidy-short _ (c .before .before .before .pre .0))
 
 returns-2 : tie.Need-returns-2 Inv-loop μ-loop
 returns-2 c =
     let s = c .before .before .before in
     let a = s .args in
     let l = c .before .loop in
-    let short = tidy-short (a .q) (s .pre .0) in
-    let places : length (a .q .bytes) ≡ 16 = search needs in
+    let short = tidy-short (a .queue) (s .pre .0) in
+    let places : length (a .queue .bytes) ≡ 16 = search needs in
     let places-s : length (a .t2 .bytes) ≡ 8 = search needs in
-    pushed-by-copying (a .q) (s .pre .0) places (a .t2) (s .pre .1) places-s (a .mark) (l .e .bytes) (l .i) (omega arith) (omega arith) (omega arith) (l .inv .1)
+    pushed-by-copying (a .queue) (s .pre .0) places (a .t2) (s .pre .1) places-s (a .mark) (l .after .bytes) (l .i) (omega arith) (omega arith) (omega arith) (l .inv .1)
 
 pub pushed-spec : {M : Type 1} → statement M
 pushed-spec =
@@ -80,15 +80,15 @@ pushed-spec =
     Inv-loop
     μ-loop
     sub-if1
-    sub-e
-    element-write-e
+    sub-after
+    element-write-after
     returns
     loop-holds
-    element-copy-out-e
-    add-e
-    element-write-e-2
+    element-copy-out-after
+    add-after
+    element-write-after-2
     add-i
     loop-less
     loop-again
-    add-e-2
+    add-after-2
     returns-2)

@@ -8,7 +8,7 @@ is-tidy-requires : tie.Need-is-tidy-requires
 is-tidy-requires c κs = search needs
 
 returns : tie.Need-returns
-returns c = joined-keys (c .before .before .before .before .args .k) _ (c .before .before .is-tidy .ensures)
+returns c = joined-keys (c .before .before .before .before .args .keys) _ (c .before .before .is-tidy .ensures)
 
 pub is-good-keys-spec : {M : Type 1} → statement M
 is-good-keys-spec = tie.close (tie.spec is-tidy-requires returns)

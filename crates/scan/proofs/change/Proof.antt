@@ -14,7 +14,7 @@ returns : tie.Need-returns
 returns c =
     let known = c .before .before .before .before in
     let a = known .before .args in
-    rest-changes-nothing (dockWith (a .map .now) (a .closed .now) (a .counts .now) (a .held .now) (a .types .now) (a .r)) (a .scan .now) _
+    rest-changes-nothing (dockWith (a .map .now) (a .closed .now) (a .counts .now) (a .held .now) (a .types .now) (a .rest)) (a .scan .now) _
     (λ i. omega (arith, known .shared-slice-known .given i)) (c .before .at-rest .ensures) (c .if1 .taken)
 
 is-phantom-requires : tie.Need-is-phantom-requires
@@ -23,7 +23,7 @@ is-phantom-requires c κs = search needs
 returns-2 : tie.Need-returns-2
 returns-2 c =
     let a = c .before .before .before .before .before .before .before .args in
-    phantom-changes-nothing (dockWith (a .map .now) (a .closed .now) (a .counts .now) (a .held .now) (a .types .now) (a .r)) (a .scan .now) _ (c .before .is-phantom .ensures) (c .if2 .taken)
+    phantom-changes-nothing (dockWith (a .map .now) (a .closed .now) (a .counts .now) (a .held .now) (a .types .now) (a .rest)) (a .scan .now) _ (c .before .is-phantom .ensures) (c .if2 .taken)
 
 count-requires : tie.Need-count-requires
 count-requires c κs = search needs
@@ -32,7 +32,7 @@ returns-3 : tie.Need-returns-3
 returns-3 c =
     let believed = c .before .before .before .before in
     let a = believed .before .before .before .before .before .before .before .args in
-    believed-is-counted (dockWith (a .map .now) (a .closed .now) (a .counts .now) (a .held .now) (a .types .now) (a .r)) (a .scan .now) _ (believed .before .is-phantom .ensures) (believed .if2 .left) _ (c .count .ensures)
+    believed-is-counted (dockWith (a .map .now) (a .closed .now) (a .counts .now) (a .held .now) (a .types .now) (a .rest)) (a .scan .now) _ (believed .before .is-phantom .ensures) (believed .if2 .left) _ (c .count .ensures)
 
 pub change-spec : {M : Type 1} → statement M
 change-spec =

@@ -14,14 +14,14 @@ turns-requires : tie.Need-turns-requires
 turns-requires c κs =
     let s = c .before .before .before .before .before .before .before .before .before .before in
     let a = s .args in
-    let d = dockWith (a .map .now) (a .closed .now) (a .counts .now) (a .held .now) (a .types .now) (a .r) in
+    let d = dockWith (a .map .now) (a .closed .now) (a .counts .now) (a .held .now) (a .types .now) (a .rest) in
     (in-range-keys d (s .pre .0), in-range-mode d (s .pre .0), in-range-map d (s .pre .0))
 
 returns : tie.Need-returns
 returns c =
     let n = c .before .before .before .before .before .before in
     let a = n .before .before .before .before .before .args in
-    counted-by-parts (dockWith (a .map .now) (a .closed .now) (a .counts .now) (a .held .now) (a .types .now) (a .r)) (a .scan .now)
+    counted-by-parts (dockWith (a .map .now) (a .closed .now) (a .counts .now) (a .held .now) (a .types .now) (a .rest)) (a .scan .now)
     (contacts (n .count .last .0) (n .count .last .1 .0)) (keysWith (c .turns .last .0) (c .turns .result)) (n .count .ensures) (c .turns .ensures)
 
 pub count-spec : {M : Type 1} → statement M

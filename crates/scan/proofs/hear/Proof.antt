@@ -18,7 +18,7 @@ change-requires c κs =
     let tick = c .before .before .before in
     let s = tick .before .before .before in
     let a = s .args in
-    (ticked-in-range (dockWith (a .map .now) (a .closed .now) (a .counts .now) (a .held .now) (a .types .now) (a .r)) (s .pre .0) _ (ap (keysWith (a .held .now)) (tick .tick .ensures)), s .pre .1, s .pre .2, s .pre .3)
+    (ticked-in-range (dockWith (a .map .now) (a .closed .now) (a .counts .now) (a .held .now) (a .types .now) (a .rest)) (s .pre .0) _ (ap (keysWith (a .held .now)) (tick .tick .ensures)), s .pre .1, s .pre .2, s .pre .3)
 
 repeat-requires : tie.Need-repeat-requires
 repeat-requires c κs =
@@ -27,14 +27,14 @@ repeat-requires c κs =
     let s = tick .before .before .before in
     let a = s .args in
     rest-in-range (a .map .now) (after .last .1 .0) (after .last .1 .1 .0) (after .last .1 .1 .1 .0) (a .types .now) (after .result)
-    (changed-leaves-range (dockWith (a .map .now) (a .closed .now) (a .counts .now) (a .held .now) (a .types .now) (a .r)) (s .pre .0) _ (ap (keysWith (a .held .now)) (tick .tick .ensures)) (a .scan .now) _ (after .ensures))
+    (changed-leaves-range (dockWith (a .map .now) (a .closed .now) (a .counts .now) (a .held .now) (a .types .now) (a .rest)) (s .pre .0) _ (ap (keysWith (a .held .now)) (tick .tick .ensures)) (a .scan .now) _ (after .ensures))
 
 returns : tie.Need-returns
 returns c =
     let after = c .before .before .change in
     let tick = c .before .before .before .before .before .before in
     let a = tick .before .before .before .args in
-    let d = dockWith (a .map .now) (a .closed .now) (a .counts .now) (a .held .now) (a .types .now) (a .r) in
+    let d = dockWith (a .map .now) (a .closed .now) (a .counts .now) (a .held .now) (a .types .now) (a .rest) in
     heard-whole d (a .scan .now) _ _
     (after .ensures ∙ ap (λ (k : Keys). changed (withKeys d k) (a .scan .now)) (ap (keysWith (a .held .now)) (tick .tick .ensures)))
     (c .repeat .ensures (a .map .now) (after .last .1 .0) (after .last .1 .1 .0))

@@ -5,7 +5,7 @@ use Rattle.scan.proofs.is_listening.Statement.{statement}
 use Rattle.scan.proofs.is_listening.Tie as tie
 
 returns : tie.Need-returns
-returns c = λ map closed counts held types. joined-listening (dockWith map closed counts held types (c .before .before .before .args .r))
+returns c = λ map closed counts held types. joined-listening (dockWith map closed counts held types (c .before .before .before .args .rest))
 
 pub is-listening-spec : {M : Type 1} → statement M
 is-listening-spec = tie.close (tie.spec returns)

@@ -11,7 +11,7 @@ returns : tie.Need-returns
 returns c =
     let s = c .before .before in
     let a = s .args in
-    scan-wrong-length (dockWith (a .map .now) (a .closed .now) (a .counts .now) (a .held .now) (a .types .now) (a .r)) (a .scan .now) (s .pre .0) (c .if1 .taken)
+    scan-wrong-length (dockWith (a .map .now) (a .closed .now) (a .counts .now) (a .held .now) (a .types .now) (a .rest)) (a .scan .now) (s .pre .0) (c .if1 .taken)
 
 is-listening-requires : tie.Need-is-listening-requires
 is-listening-requires c κs = search needs
@@ -20,7 +20,7 @@ close-in-place-requires : tie.Need-close-in-place-requires
 close-in-place-requires c κs =
     let s = c .before .before .before .before .before in
     let a = s .args in
-    rest-in-range (a .map .now) (a .closed .now) (a .counts .now) (a .held .now) (a .types .now) (a .r) (s .pre .0)
+    rest-in-range (a .map .now) (a .closed .now) (a .counts .now) (a .held .now) (a .types .now) (a .rest) (s .pre .0)
 
 returns-2 : tie.Need-returns-2
 returns-2 c =
@@ -28,7 +28,7 @@ returns-2 c =
     let long = deaf .before .before in
     let s = long .before .before in
     let a = s .args in
-    scan-not-heard (dockWith (a .map .now) (a .closed .now) (a .counts .now) (a .held .now) (a .types .now) (a .r)) (a .scan .now) (s .pre .0) (long .if1 .left)
+    scan-not-heard (dockWith (a .map .now) (a .closed .now) (a .counts .now) (a .held .now) (a .types .now) (a .rest)) (a .scan .now) (s .pre .0) (long .if1 .left)
     _ (deaf .before .is-listening .ensures (a .map .now) (a .closed .now) (a .counts .now) (a .held .now) (a .types .now))
     _ (not-true _ (deaf .if2 .taken)) (c .close-in-place .ensures (a .map .now) (a .closed .now) (a .counts .now))
 
@@ -44,7 +44,7 @@ returns-3 c =
     let long = listens .before .before in
     let s = long .before .before in
     let a = s .args in
-    scan-heard (dockWith (a .map .now) (a .closed .now) (a .counts .now) (a .held .now) (a .types .now) (a .r)) (a .scan .now) (s .pre .0) (long .if1 .left)
+    scan-heard (dockWith (a .map .now) (a .closed .now) (a .counts .now) (a .held .now) (a .types .now) (a .rest)) (a .scan .now) (s .pre .0) (long .if1 .left)
     _ (listens .before .is-listening .ensures (a .map .now) (a .closed .now) (a .counts .now) (a .held .now) (a .types .now))
     _ (not-false _ (listens .if2 .left)) (c .hear .ensures)
 

@@ -16,7 +16,7 @@ plain-sequence-requires c κs = (c .before .before .pre, sym (c .before .has-for
 returns : tie.Need-returns
 returns c =
     let a = c .before .before .before .args in
-    c .plain-sequence .ensures (modifiersOf (a .held .now)) (numLock (a .m .indicators))
+    c .plain-sequence .ensures (modifiersOf (a .held .now)) (numLock (a .mode .indicators))
 
 modifiers-of-requires : tie.Need-modifiers-of-requires
 modifiers-of-requires c κs = search needs

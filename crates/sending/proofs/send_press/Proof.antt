@@ -20,8 +20,8 @@ returns : tie.Need-returns
 returns c =
     let s = c .before .before in
     let a = s .args in
-    full-marks (a .bytes .now) (a .at) (a .m) _ (s .pre .0) (s .pre .1) _ (c .mark-of .ensures) (c .before .if1 .taken)
-    (press-some (a .m .set) (a .key) (a .kind) (modifiersOf (a .held .now)) (numLock (a .m .indicators)))
+    full-marks (a .bytes .now) (a .at) (a .mode) _ (s .pre .0) (s .pre .1) _ (c .mark-of .ensures) (c .before .if1 .taken)
+    (press-some (a .mode .set) (a .key) (a .kind) (modifiersOf (a .held .now)) (numLock (a .mode .indicators)))
 
 bytes-in-requires : tie.Need-bytes-in-requires
 bytes-in-requires c κs = search needs
@@ -35,7 +35,7 @@ push-requires c κs =
     let s = c .before .before .before .before in
     let a = s .args in
     let k = keys (a .held .now) (queueWith (a .bytes .now) (a .at)) 0 0 in
-    (s .pre .0, sequence-short k (a .m) (a .kind) (a .key) Press _ (c .before .before .bytes-in .ensures))
+    (s .pre .0, sequence-short k (a .mode) (a .kind) (a .key) Press _ (c .before .before .bytes-in .ensures))
 
 returns-2 : tie.Need-returns-2
 unfolding sends
@@ -43,8 +43,8 @@ returns-2 c =
     let s = c .before .before .before .before .before in
     let a = s .args in
     let k = keys (a .held .now) (queueWith (a .bytes .now) (a .at)) 0 0 in
-    pushed-queues (a .bytes .now) (a .at) (a .m) _ (s .pre .0) (s .pre .1) _ (c .before .mark-of2 .ensures) _ _
-    (sequence-is k (a .m) (a .kind) (a .key) Press _ (c .before .before .before .bytes-in .ensures)) (c .push .ensures)
+    pushed-queues (a .bytes .now) (a .at) (a .mode) _ (s .pre .0) (s .pre .1) _ (c .before .mark-of2 .ensures) _ _
+    (sequence-is k (a .mode) (a .kind) (a .key) Press _ (c .before .before .before .bytes-in .ensures)) (c .push .ensures)
 
 pub send-press-spec : {M : Type 1} → statement M
 send-press-spec =

@@ -21,8 +21,8 @@ returns : tie.Need-returns
 returns c =
     let s = c .before .before in
     let a = s .args in
-    nothing-queued (a .bytes .now) (a .at) (a .m) _ (s .pre .0) (s .pre .1)
-    (release-none (a .m .set) (a .key) (a .kind) (modifiersOf (a .held .now)) (numLock (a .m .indicators)) _ (c .before .is-silent .ensures) (c .if1 .taken))
+    nothing-queued (a .bytes .now) (a .at) (a .mode) _ (s .pre .0) (s .pre .1)
+    (release-none (a .mode .set) (a .key) (a .kind) (modifiersOf (a .held .now)) (numLock (a .mode .indicators)) _ (c .before .is-silent .ensures) (c .if1 .taken))
 
 sub-if2 : tie.Need-sub-if2
 sub-if2 c = tidy-short _ (c .before .before .pre .0)
@@ -37,7 +37,7 @@ sub-bytes : tie.Need-sub-bytes
 sub-bytes c =
     let t = c .before in
     let a = t .before .before .before .before .args in
-    little-room (a .m .set) _ _ (t .before .shortest-release .ensures) (t .if2 .taken)
+    little-room (a .mode .set) _ _ (t .before .shortest-release .ensures) (t .if2 .taken)
 
 element-write-bytes : tie.Need-element-write-bytes
 element-write-bytes c = omega (arith, tidy-short _ (c .before .before .before .before .before .pre .0))
@@ -49,9 +49,9 @@ returns-2 c =
     let s = e .before .before in
     let a = s .args in
     let least = t .before .shortest-release .ensures in
-    let long = release-long (a .m .set) (a .key) (a .kind) (modifiersOf (a .held .now)) (numLock (a .m .indicators)) _ (e .before .is-silent .ensures) (e .if1 .left) in
-    no-room-marks (a .bytes .now) (a .at) (a .m) _ (s .pre .0) (s .pre .1) _ (c .mark-of .ensures)
-    (little-room (a .m .set) _ _ least (t .if2 .taken)) (too-long (a .m .set) _ _ _ least long (t .if2 .taken))
+    let long = release-long (a .mode .set) (a .key) (a .kind) (modifiersOf (a .held .now)) (numLock (a .mode .indicators)) _ (e .before .is-silent .ensures) (e .if1 .left) in
+    no-room-marks (a .bytes .now) (a .at) (a .mode) _ (s .pre .0) (s .pre .1) _ (c .mark-of .ensures)
+    (little-room (a .mode .set) _ _ least (t .if2 .taken)) (too-long (a .mode .set) _ _ _ least long (t .if2 .taken))
 
 bytes-in-requires : tie.Need-bytes-in-requires
 bytes-in-requires c κs = search needs
@@ -65,7 +65,7 @@ push-requires c κs =
     let s = c .before .before .before .before .before .before .before in
     let a = s .args in
     let k = keys (a .held .now) (queueWith (a .bytes .now) (a .at)) 0 0 in
-    (s .pre .0, sequence-short k (a .m) (a .kind) (a .key) Release _ (c .before .before .bytes-in .ensures))
+    (s .pre .0, sequence-short k (a .mode) (a .kind) (a .key) Release _ (c .before .before .bytes-in .ensures))
 
 returns-3 : tie.Need-returns-3
 unfolding sends
@@ -73,8 +73,8 @@ returns-3 c =
     let s = c .before .before .before .before .before .before .before .before in
     let a = s .args in
     let k = keys (a .held .now) (queueWith (a .bytes .now) (a .at)) 0 0 in
-    pushed-queues (a .bytes .now) (a .at) (a .m) _ (s .pre .0) (s .pre .1) _ (c .before .mark-of2 .ensures) _ _
-    (sequence-is k (a .m) (a .kind) (a .key) Release _ (c .before .before .before .bytes-in .ensures)) (c .push .ensures)
+    pushed-queues (a .bytes .now) (a .at) (a .mode) _ (s .pre .0) (s .pre .1) _ (c .before .mark-of2 .ensures) _ _
+    (sequence-is k (a .mode) (a .kind) (a .key) Release _ (c .before .before .before .bytes-in .ensures)) (c .push .ensures)
 
 pub send-release-spec : {M : Type 1} → statement M
 send-release-spec =

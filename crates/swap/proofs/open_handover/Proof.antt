@@ -8,13 +8,13 @@ use Rattle.swap.proofs.open_handover.Tie as tie
 returns : tie.Need-returns
 returns c = λ map held types new.
     let a = c .before .args in
-    second-swap (dockWith map (a .closed .now) (a .counts .now) held types (a .r)) new (c .if1 .taken)
+    second-swap (dockWith map (a .closed .now) (a .counts .now) held types (a .rest)) new (c .if1 .taken)
 
 returns-2 : tie.Need-returns-2
 unfolding opened
 returns-2 c = λ map held types new.
     let a = c .before .before .args in
-    first-swap (dockWith map (a .closed .now) (a .counts .now) held types (a .r)) new (c .before .if1 .left)
+    first-swap (dockWith map (a .closed .now) (a .counts .now) held types (a .rest)) new (c .before .if1 .left)
 
 pub open-handover-spec : {M : Type 1} → statement M
 open-handover-spec = tie.close (tie.spec returns returns-2)

@@ -12,7 +12,7 @@ returns : tie.Need-returns
 returns c =
     let s = c .before .before in
     let a = s .args in
-    swap-wrong-length (dockWith (a .map .now) (a .closed .now) (a .counts .now) (a .held .now) (a .types .now) (a .r)) (a .new .now) (s .pre) (c .if1 .taken)
+    swap-wrong-length (dockWith (a .map .now) (a .closed .now) (a .counts .now) (a .held .now) (a .types .now) (a .rest)) (a .new .now) (s .pre) (c .if1 .taken)
 
 copied-requires : tie.Need-copied-requires
 copied-requires c κs = search needs
@@ -29,7 +29,7 @@ returns-2 c =
     let long = copy .before in
     let s = long .before .before in
     let a = s .args in
-    swap-wrong-entry (dockWith (a .map .now) (a .closed .now) (a .counts .now) (a .held .now) (a .types .now) (a .r)) (a .new .now) (s .pre) (long .if1 .left)
+    swap-wrong-entry (dockWith (a .map .now) (a .closed .now) (a .counts .now) (a .held .now) (a .types .now) (a .rest)) (a .new .now) (s .pre) (long .if1 .left)
     _ (copy .copied .ensures) _ (c .before .all-up-to .ensures) (not-true _ (c .if2 .taken))
 
 has-double-requires : tie.Need-has-double-requires
@@ -42,7 +42,7 @@ returns-3 c =
     let long = copy .before in
     let s = long .before .before in
     let a = s .args in
-    swap-double (dockWith (a .map .now) (a .closed .now) (a .counts .now) (a .held .now) (a .types .now) (a .r)) (a .new .now) (s .pre) (long .if1 .left)
+    swap-double (dockWith (a .map .now) (a .closed .now) (a .counts .now) (a .held .now) (a .types .now) (a .rest)) (a .new .now) (s .pre) (long .if1 .left)
     _ (copy .copied .ensures) _ (small .before .all-up-to .ensures) (not-false _ (small .if2 .left))
     _ (c .before .has-double .ensures) (c .if3 .taken)
 
@@ -56,7 +56,7 @@ go-on-requires c κs =
     let copy = small .before .before .before in
     let s = copy .before .before .before in
     let a = s .args in
-    let d = dockWith (a .map .now) (a .closed .now) (a .counts .now) (a .held .now) (a .types .now) (a .r) in
+    let d = dockWith (a .map .now) (a .closed .now) (a .counts .now) (a .held .now) (a .types .now) (a .rest) in
     let remaps = next .open-handover .ensures (a .map .now) (a .held .now) (a .types .now) (copy .copied .result) in (
       rest-in-range (copy .copied .result) _ _ (a .held .now) (a .types .now) (next .open-handover .result)
           (swap-leaves-range d (copy .copied .result) (s .pre) (sym (small .before .all-up-to .ensures) ∙ not-false _ (small .if2 .left)) _ remaps),
@@ -72,7 +72,7 @@ returns-4 c =
     let long = copy .before in
     let s = long .before .before in
     let a = s .args in
-    swap-taken (dockWith (a .map .now) (a .closed .now) (a .counts .now) (a .held .now) (a .types .now) (a .r)) (a .new .now) (s .pre) (long .if1 .left)
+    swap-taken (dockWith (a .map .now) (a .closed .now) (a .counts .now) (a .held .now) (a .types .now) (a .rest)) (a .new .now) (s .pre) (long .if1 .left)
     _ (copy .copied .ensures) _ (small .before .all-up-to .ensures) (not-false _ (small .if2 .left))
     _ (double .before .has-double .ensures) (double .if3 .left)
     _ _ (next .open-handover .ensures (a .map .now) (a .held .now) (a .types .now) (copy .copied .result)) (c .go-on .ensures (copy .copied .result) _ _)

@@ -8,7 +8,7 @@ use Rattle.dock.proofs.closing.close_in_place.Tie as tie
 returns : tie.Need-returns
 returns c = λ map closed counts.
     let a = c .before .before .args in
-    nothing-to-hand-over (dockWith map closed counts (a .held .now) (a .types .now) (a .r)) (not-true _ (c .if1 .taken))
+    nothing-to-hand-over (dockWith map closed counts (a .held .now) (a .types .now) (a .rest)) (not-true _ (c .if1 .taken))
 
 go-on-requires : tie.Need-go-on-requires
 go-on-requires c κs =

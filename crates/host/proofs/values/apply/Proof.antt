@@ -43,7 +43,7 @@ returns-4 : tie.Need-returns-4
 returns-4 c = λ map closed counts held.
     let l = c .before in
     let a = l .before .before .before .before .args in
-    valued-type _ _ (l .before .before .if1 .left) (l .before .if2 .left) (l .if3 .left) (dockWith map closed counts held (a .types .now) (a .r)) _ (c .in-set3 .ensures)
+    valued-type _ _ (l .before .before .if1 .left) (l .before .if2 .left) (l .if3 .left) (dockWith map closed counts held (a .types .now) (a .rest)) _ (c .in-set3 .ensures)
 
 pub apply-spec : {M : Type 1} → statement M
 apply-spec =

@@ -17,7 +17,7 @@ returns : tie.Need-returns
 returns c = λ map closed counts held.
     let a = c .before .before .before .args in
     c .reply .ensures map closed counts held (a .types .now)
-    ∙ value-wrong (a .byte) (dockWith map closed counts held (a .types .now) (a .r)) _ (c .before .before .is-right .ensures) (not-true _ (c .before .if1 .taken))
+    ∙ value-wrong (a .byte) (dockWith map closed counts held (a .types .now) (a .rest)) _ (c .before .before .is-right .ensures) (not-true _ (c .before .if1 .taken))
 
 apply-requires : tie.Need-apply-requires
 apply-requires c κs = sym (c .before .before .is-right .ensures) ∙ not-false _ (c .before .if1 .left)
@@ -30,7 +30,7 @@ returns-2 c = λ map closed counts held.
     let l = c .before .before .before in
     let a = l .before .before .args in
     c .reply2 .ensures map closed counts held _
-    ∙ value-right (a .byte) (dockWith map closed counts held (a .types .now) (a .r)) _ (l .before .is-right .ensures) (not-false _ (l .if1 .left)) _ (c .before .apply .ensures map closed counts held)
+    ∙ value-right (a .byte) (dockWith map closed counts held (a .types .now) (a .rest)) _ (l .before .is-right .ensures) (not-false _ (l .if1 .left)) _ (c .before .apply .ensures map closed counts held)
 
 pub take-value-spec : {M : Type 1} → statement M
 take-value-spec =

@@ -14,12 +14,12 @@ use Rattle.keying.proofs.repeating.repeat.Tie as tie
 returns : tie.Need-returns
 returns c =
     let a = c .before .args in
-    repeats-none (keysWith (a .held .now) (a .o)) _ _ _ (c .if1 .taken)
+    repeats-none (keysWith (a .held .now) (a .outgoing)) _ _ _ (c .if1 .taken)
 
 returns-2 : tie.Need-returns-2
 returns-2 c =
     let s = c .before .before .before in
-    repeats-later (keysWith (s .args .held .now) (s .args .o)) _ _ _ (c .before .before .if1 .left) (c .if2 .taken)
+    repeats-later (keysWith (s .args .held .now) (s .args .outgoing)) _ _ _ (c .before .before .if1 .left) (c .if2 .taken)
 
 cast-kind : tie.Need-cast-kind
 cast-kind c = search needs
@@ -27,7 +27,7 @@ cast-kind c = search needs
 element-copy-out-kind : tie.Need-element-copy-out-kind
 element-copy-out-kind c =
     let s = c .before .before .before in
-    omega (arith, good-keys-repeating (keysWith (s .args .held .now) (s .args .o)) (s .pre .0))
+    omega (arith, good-keys-repeating (keysWith (s .args .held .now) (s .args .outgoing)) (s .pre .0))
 
 may-repeat-requires : tie.Need-may-repeat-requires
 may-repeat-requires c κs = search needs
@@ -36,7 +36,7 @@ returns-3 : tie.Need-returns-3
 returns-3 c =
     let d = c .before .before .before in
     let a = d .before .before .before .args in
-    repeats-no-more (keysWith (a .held .now) (a .o)) _ _ _ (d .before .before .if1 .left) (d .if2 .left) _ (c .before .may-repeat .ensures)
+    repeats-no-more (keysWith (a .held .now) (a .outgoing)) _ _ _ (d .before .before .if1 .left) (d .if2 .left) _ (c .before .may-repeat .ensures)
     (not-true _ (c .if3 .taken))
 
 interval-of-requires : tie.Need-interval-of-requires
@@ -47,7 +47,7 @@ returns-4 c =
     let r = c .before .before in
     let d = r .before .before .before in
     let a = d .before .before .before .args in
-    repeats-lost (keysWith (a .held .now) (a .o)) _ _ _ (d .before .before .if1 .left) (d .if2 .left) _ (r .before .may-repeat .ensures)
+    repeats-lost (keysWith (a .held .now) (a .outgoing)) _ _ _ (d .before .before .if1 .left) (d .if2 .left) _ (r .before .may-repeat .ensures)
     (not-false _ (r .if3 .left)) _ (c .before .interval-of .ensures) (not-true _ (c .if4 .taken))
 
 bytes-of-requires : tie.Need-bytes-of-requires
@@ -57,7 +57,7 @@ holding-requires : tie.Need-holding-requires
 unfolding sends
 holding-requires c κs =
     let a = c .before .before .before .before .before .before .before .before .before .args in
-    sequence-short (keysWith (a .held .now) (a .o)) (a .m) _ _ Repeat _ (c .bytes-of .ensures)
+    sequence-short (keysWith (a .held .now) (a .outgoing)) (a .mode) _ _ Repeat _ (c .bytes-of .ensures)
 
 returns-5 : tie.Need-returns-5
 unfolding sends
@@ -66,7 +66,7 @@ returns-5 c =
     let r = q .before .before in
     let d = r .before .before .before in
     let a = d .before .before .before .args in
-    repeats-sent (keysWith (a .held .now) (a .o)) _ _ _ (d .before .before .if1 .left) (d .if2 .left) _ (r .before .may-repeat .ensures)
+    repeats-sent (keysWith (a .held .now) (a .outgoing)) _ _ _ (d .before .before .if1 .left) (d .if2 .left) _ (r .before .may-repeat .ensures)
     (not-false _ (r .if3 .left)) _ (q .before .interval-of .ensures) (not-false _ (q .if4 .left)) _ _ (c .before .bytes-of .ensures)
     (c .holding .ensures)
 

@@ -13,7 +13,7 @@ keys-with-requires c κs = search needs
 returns : tie.Need-returns
 returns c =
     let a = c .before .before .before .before .args in
-    ap (λ (k : Keys). withKeys (dockWith (a .map) (a .closed) (a .counts) (a .held) (a .types) (a .r)) k) (c .keys-with .ensures)
+    ap (λ (k : Keys). withKeys (dockWith (a .map) (a .closed) (a .counts) (a .held) (a .types) (a .rest)) k) (c .keys-with .ensures)
 
 pub dock-with-spec : {M : Type 1} → statement M
 dock-with-spec = tie.close (tie.spec keys-with-requires returns)

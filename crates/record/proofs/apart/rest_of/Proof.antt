@@ -10,7 +10,7 @@ outgoing-of-requires : tie.Need-outgoing-of-requires
 outgoing-of-requires c κs = search needs
 
 returns : tie.Need-returns
-returns c = ap (λ (o : Outgoing). withOutgoing (restOf (c .before .before .before .before .args .d)) o) (c .outgoing-of .ensures)
+returns c = ap (λ (o : Outgoing). withOutgoing (restOf (c .before .before .before .before .args .dock)) o) (c .outgoing-of .ensures)
 
 pub rest-of-spec : {M : Type 1} → statement M
 rest-of-spec = tie.close (tie.spec outgoing-of-requires returns)

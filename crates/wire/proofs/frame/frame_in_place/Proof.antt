@@ -25,7 +25,7 @@ close-in-place-requires : tie.Need-close-in-place-requires
 close-in-place-requires c κs =
     let s = c .before .before .before .before .before .before in
     let a = s .args in
-    broken-leaves-range (dockWith [] [] [] (a .held .now) (a .types .now) (a .r)) (s .pre)
+    broken-leaves-range (dockWith [] [] [] (a .held .now) (a .types .now) (a .rest)) (s .pre)
     (dockWith [] [] [] (a .held .now) (a .types .now) (c .reply .result)) (c .reply .ensures [] [] [] (a .held .now) (a .types .now))
 
 enum-known-unpacked : tie.Need-enum-known-unpacked
@@ -39,22 +39,22 @@ close-in-place-requires-2 c κs =
     let took = c .before .before in
     let s = took .before .before .before .before .before .before .before .before .before in
     let a = s .args in
-    let known = in-range-with-contacts (dockWith [] [] [] (a .held .now) (a .types .now) (a .r)) (s .pre) (contacts (a .closed .now) (a .counts .now)) in
+    let known = in-range-with-contacts (dockWith [] [] [] (a .held .now) (a .types .now) (a .rest)) (s .pre) (contacts (a .closed .now) (a .counts .now)) in
     rest-in-range [] _ _ _ _ (took .take .result)
-    (byte-leaves-range (dockWith [] (a .closed .now) (a .counts .now) (a .held .now) (a .types .now) (a .r)) known _ _ (took .take .ensures []))
+    (byte-leaves-range (dockWith [] (a .closed .now) (a .counts .now) (a .held .now) (a .types .now) (a .rest)) known _ _ (took .take .ensures []))
 
 returns : tie.Need-returns
 returns c = λ map known.
     let unpacked = c .before .before in
     let a = unpacked .before .args in
-    frame-too-large (dockWith map (a .closed .now) (a .counts .now) (a .held .now) (a .types .now) (a .r)) (a .number) known _ (unpacked .unpack .ensures) (c .enum-told .given .1)
+    frame-too-large (dockWith map (a .closed .now) (a .counts .now) (a .held .now) (a .types .now) (a .rest)) (a .number) known _ (unpacked .unpack .ensures) (c .enum-told .given .1)
 
 returns-2 : tie.Need-returns-2
 returns-2 c = λ map known.
     let told = c .before .before .before .before in
     let unpacked = told .before .before in
     let a = unpacked .before .args in
-    frame-broken (dockWith map (a .closed .now) (a .counts .now) (a .held .now) (a .types .now) (a .r)) (a .number) known
+    frame-broken (dockWith map (a .closed .now) (a .counts .now) (a .held .now) (a .types .now) (a .rest)) (a .number) known
     _ (unpacked .unpack .ensures) (dockWith map (a .closed .now) (a .counts .now) (a .held .now) (a .types .now) (c .before .reply .result))
     _ (c .close-in-place .ensures map (a .closed .now) (a .counts .now)) (told .enum-told2 .given .1)
     (c .before .reply .ensures map (a .closed .now) (a .counts .now) (a .held .now) (a .types .now))
@@ -65,7 +65,7 @@ returns-3 c = λ map known.
     let told = took .before .before .before .before .before in
     let unpacked = told .before .before .before in
     let a = unpacked .before .args in
-    frame-byte (dockWith map (a .closed .now) (a .counts .now) (a .held .now) (a .types .now) (a .r)) (a .number) known
+    frame-byte (dockWith map (a .closed .now) (a .counts .now) (a .held .now) (a .types .now) (a .rest)) (a .number) known
     _ (unpacked .unpack .ensures)
     _ _ (c .close-in-place2 .ensures map _ _) _ (told .before .unpacked .given .1) (took .take .ensures map)
 

@@ -12,7 +12,7 @@ returns : tie.Need-returns
 returns c = λ map closed counts known.
     let some = c .before .before in
     let a = some .before .before .before .args in
-    read-reply (dockWith map closed counts (a .held .now) (a .types .now) (a .r)) known (some .if1 .taken)
+    read-reply (dockWith map closed counts (a .held .now) (a .types .now) (a .rest)) known (some .if1 .taken)
     _ (c .take-reply .ensures map closed counts)
 
 take-key-byte-requires : tie.Need-take-key-byte-requires
@@ -23,7 +23,7 @@ returns-2 c = λ map closed counts known.
     let some = c .before .before in
     let none = some .before .before .before .before in
     let a = none .before .before .before .args in
-    read-key-byte (dockWith map closed counts (a .held .now) (a .types .now) (a .r)) known (none .if1 .left) (some .if2 .taken)
+    read-key-byte (dockWith map closed counts (a .held .now) (a .types .now) (a .rest)) known (none .if1 .left) (some .if2 .taken)
     _ (c .take-key-byte .ensures map closed counts)
 
 close-in-place-requires : tie.Need-close-in-place-requires
@@ -34,7 +34,7 @@ returns-3 c = λ map closed counts known.
     let empty = c .before .before in
     let none = empty .before .before .before .before in
     let a = none .before .before .before .args in
-    read-nothing (dockWith map closed counts (a .held .now) (a .types .now) (a .r)) known (none .if1 .left) (empty .if2 .left)
+    read-nothing (dockWith map closed counts (a .held .now) (a .types .now) (a .rest)) known (none .if1 .left) (empty .if2 .left)
     _ (c .close-in-place .ensures map closed counts)
 
 pub read-in-place-spec : {M : Type 1} → statement M

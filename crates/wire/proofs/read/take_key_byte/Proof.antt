@@ -15,7 +15,7 @@ popped-requires : tie.Need-popped-requires
 popped-requires c κs =
     let s = c .before .before .before in
     let a = s .args in
-    let d = dockWith [] [] [] (a .held .now) (a .types .now) (a .r) in
+    let d = dockWith [] [] [] (a .held .now) (a .types .now) (a .rest) in
     good-keys-queue (d .keys) (in-range-keys d (s .pre .0))
 
 remember-requires : tie.Need-remember-requires
@@ -25,15 +25,15 @@ close-in-place-requires : tie.Need-close-in-place-requires
 close-in-place-requires c κs =
     let s = c .before .before .before .before .before .before in
     let a = s .args in
-    key-byte-leaves-range (dockWith [] [] [] (a .held .now) (a .types .now) (a .r)) (s .pre .0) _ _ _ (c .before .before .popped .ensures)
+    key-byte-leaves-range (dockWith [] [] [] (a .held .now) (a .types .now) (a .rest)) (s .pre .0) _ _ _ (c .before .before .popped .ensures)
     (c .remember .ensures [] [] [] (a .held .now) (a .types .now))
 
 returns : tie.Need-returns
 returns c = λ map closed counts.
     let s = c .before .before .before .before .before .before .before in
     let a = s .args in
-    key-byte-given (dockWith map closed counts (a .held .now) (a .types .now) (a .r)) _ _ _ (c .close-in-place .ensures map closed counts) _
-    (oldest-in-front (a .r .outgoing .queue) (s .pre .1)) (c .before .before .before .popped .ensures)
+    key-byte-given (dockWith map closed counts (a .held .now) (a .types .now) (a .rest)) _ _ _ (c .close-in-place .ensures map closed counts) _
+    (oldest-in-front (a .rest .outgoing .queue) (s .pre .1)) (c .before .before .before .popped .ensures)
     (c .before .remember .ensures map closed counts (a .held .now) (a .types .now))
 
 pub take-key-byte-spec : {M : Type 1} → statement M

@@ -15,7 +15,7 @@ popped-requires : tie.Need-popped-requires
 popped-requires c κs =
     let s = c .before .before in
     let a = s .args in
-    let d = dockWith [] [] [] (a .held .now) (a .types .now) (a .r) in
+    let d = dockWith [] [] [] (a .held .now) (a .types .now) (a .rest) in
     (in-range-replies d (s .pre .0), s .pre .1)
 
 remember-requires : tie.Need-remember-requires
@@ -25,15 +25,15 @@ close-in-place-requires : tie.Need-close-in-place-requires
 close-in-place-requires c κs =
     let s = c .before .before .before .before .before in
     let a = s .args in
-    reply-leaves-range (dockWith [] [] [] (a .held .now) (a .types .now) (a .r)) (s .pre .0) _ _ _ (c .before .before .popped .ensures)
+    reply-leaves-range (dockWith [] [] [] (a .held .now) (a .types .now) (a .rest)) (s .pre .0) _ _ _ (c .before .before .popped .ensures)
     (c .remember .ensures [] [] [] (a .held .now) (a .types .now))
 
 returns : tie.Need-returns
 returns c = λ map closed counts.
     let s = c .before .before .before .before .before .before in
     let a = s .args in
-    reply-given (dockWith map closed counts (a .held .now) (a .types .now) (a .r)) _ _ _ (c .close-in-place .ensures map closed counts) _
-    (oldest-reply-in-front (a .r .replies) (s .pre .1)) (c .before .before .before .popped .ensures)
+    reply-given (dockWith map closed counts (a .held .now) (a .types .now) (a .rest)) _ _ _ (c .close-in-place .ensures map closed counts) _
+    (oldest-reply-in-front (a .rest .replies) (s .pre .1)) (c .before .before .before .popped .ensures)
     (c .before .remember .ensures map closed counts (a .held .now) (a .types .now))
 
 pub take-reply-spec : {M : Type 1} → statement M
