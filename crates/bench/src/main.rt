@@ -73,8 +73,11 @@ fn run_in_place(
     text: &[u8],
     out: &mut [u8],
 ) -> RanRest
-    requires { ⌜ (length (now text) ≤ 16384) × (length (now out) ≡ 65536) × (inRange (dockWith (now map) (now closed) (now counts) (now held) (now types) before) ≡ true) × (length (now closed) ≡ 18) × (length (now counts) ≡ 144) ⌝ }
-    ensures { λ r. ⌜ (r .used ≤ length (now (text .entry))) × (r .written ≤ 65536) × (inRange (dockWith (now (map .exit)) (now (closed .exit)) (now (counts .exit)) (now (held .exit)) (now (types .exit)) (r .rest)) ≡ true) ⌝ }
+    requires { ⌜ (length (now text) ≤ 16384) × (length (now out) ≡ 65536)
+        × (inRange (dockWith (now map) (now closed) (now counts) (now held) (now types) before) ≡ true) × (length (now closed) ≡ 18)
+        × (length (now counts) ≡ 144) ⌝ }
+    ensures { λ r. ⌜ (r .used ≤ length (now (text .entry))) × (r .written ≤ 65536)
+        × (inRange (dockWith (now (map .exit)) (now (closed .exit)) (now (counts .exit)) (now (held .exit)) (now (types .exit)) (r .rest)) ≡ true) ⌝ }
 {
     let mut rest = before;
     let mut at: usize = 0;

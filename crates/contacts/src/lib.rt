@@ -120,7 +120,8 @@ pub fn at_rest(closed: &Columns, counts: &Counts, scan: &[u8]) -> bool
 // The contacts after a counted scan, in place.
 pub fn count(closed: &mut Columns, counts: &mut Counts, scan: &[u8])
     requires { ⌜ (length (now closed) ≡ 18) × (length (now counts) ≡ 144) × (length (now scan) ≡ 18) ⌝ }
-    ensures { λ r. ⌜ contacts (now (closed .exit)) (now (counts .exit)) ≡ countedOf (contacts (now (closed .entry)) (now (counts .entry))) (now (scan .entry)) ⌝ }
+    ensures { λ r. ⌜ contacts (now (closed .exit)) (now (counts .exit))
+        ≡ countedOf (contacts (now (closed .entry)) (now (counts .entry))) (now (scan .entry)) ⌝ }
 {
     let mut c: usize = 0;
     while c < 18 {

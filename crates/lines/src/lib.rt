@@ -85,8 +85,10 @@ fn scan_line(
     rest: Rest,
     line: &[u8],
 ) -> SteppedRest
-    requires { ⌜ (inRange (dockWith (now map) (now closed) (now counts) (now held) (now types) rest) ≡ true) × (length (now closed) ≡ 18) × (length (now counts) ≡ 144) × (length (now line) ≡ 36) × (allDigits (now line) ≡ true) ⌝ }
-    ensures { λ r. ⌜ steppedWith (now (map .entry)) (now (closed .exit)) (now (counts .exit)) (now (held .exit)) (now (types .entry)) r ≡ steppedBy (scanOf (dockWith (now (map .entry)) (now (closed .entry)) (now (counts .entry)) (now (held .entry)) (now (types .entry)) rest) (bytesFrom (now (line .entry)) 0 18)) ⌝ }
+    requires { ⌜ (inRange (dockWith (now map) (now closed) (now counts) (now held) (now types) rest) ≡ true) × (length (now closed) ≡ 18)
+        × (length (now counts) ≡ 144) × (length (now line) ≡ 36) × (allDigits (now line) ≡ true) ⌝ }
+    ensures { λ r. ⌜ steppedWith (now (map .entry)) (now (closed .exit)) (now (counts .exit)) (now (held .exit)) (now (types .entry)) r
+        ≡ steppedBy (scanOf (dockWith (now (map .entry)) (now (closed .entry)) (now (counts .entry)) (now (held .entry)) (now (types .entry)) rest) (bytesFrom (now (line .entry)) 0 18)) ⌝ }
 {
     let scan = digits::scan_in(line);
     let answered = scan::scan_in_place(map, closed, counts, held, types, rest, &scan);
@@ -101,7 +103,10 @@ fn scan_line(
 // An empty line: a read.
 fn read_line(held: &mut Held, types: &Types, rest: Rest) -> SteppedRest
     requires { ⌜ restInRange (now held) (now types) rest ≡ true ⌝ }
-    ensures { λ r. ⌜ ((map closed counts : List ℕ) → inRange (dockWith map closed counts (now (held .entry)) (now (types .entry)) rest) ≡ true → steppedWith map closed counts (now (held .exit)) (now (types .entry)) r ≡ steppedRead (readOf (dockWith map closed counts (now (held .entry)) (now (types .entry)) rest))) ⌝ }
+    ensures { λ r. ⌜ ((map closed counts : List ℕ)
+        → inRange (dockWith map closed counts (now (held .entry)) (now (types .entry)) rest) ≡ true
+        → steppedWith map closed counts (now (held .exit)) (now (types .entry)) r
+        ≡ steppedRead (readOf (dockWith map closed counts (now (held .entry)) (now (types .entry)) rest))) ⌝ }
 {
     let answered = wire::read::read_in_place(held, types, rest);
     let after = answered.rest;
@@ -122,7 +127,10 @@ fn frame_line(
     line: &[u8],
 ) -> SteppedRest
     requires { ⌜ (restInRange (now held) (now types) rest ≡ true) × (length (now line) ≡ 3) × (allDigits (now line) ≡ true) ⌝ }
-    ensures { λ r. ⌜ ((map : List ℕ) → inRange (dockWith map (now (closed .entry)) (now (counts .entry)) (now (held .entry)) (now (types .entry)) rest) ≡ true → steppedWith map (now (closed .exit)) (now (counts .exit)) (now (held .exit)) (now (types .exit)) r ≡ steppedBy (frameOf (dockWith map (now (closed .entry)) (now (counts .entry)) (now (held .entry)) (now (types .entry)) rest) (frameIn (now (line .entry))))) ⌝ }
+    ensures { λ r. ⌜ ((map : List ℕ)
+        → inRange (dockWith map (now (closed .entry)) (now (counts .entry)) (now (held .entry)) (now (types .entry)) rest) ≡ true
+        → steppedWith map (now (closed .exit)) (now (counts .exit)) (now (held .exit)) (now (types .exit)) r
+        ≡ steppedBy (frameOf (dockWith map (now (closed .entry)) (now (counts .entry)) (now (held .entry)) (now (types .entry)) rest) (frameIn (now (line .entry))))) ⌝ }
 {
     let number = digits::frame_in(line);
     let answered = wire::frame::frame_in_place(closed, counts, held, types, rest, number);
@@ -144,8 +152,10 @@ fn map_line(
     rest: Rest,
     line: &[u8],
 ) -> SteppedRest
-    requires { ⌜ (inRange (dockWith (now map) (now closed) (now counts) (now held) (now types) rest) ≡ true) × (length (now line) ≡ 288) × (allDigits (now line) ≡ true) ⌝ }
-    ensures { λ r. ⌜ steppedWith (now (map .exit)) (now (closed .exit)) (now (counts .exit)) (now (held .exit)) (now (types .entry)) r ≡ steppedBy (swapOf (dockWith (now (map .entry)) (now (closed .entry)) (now (counts .entry)) (now (held .entry)) (now (types .entry)) rest) (bytesFrom (now (line .entry)) 0 144)) ⌝ }
+    requires { ⌜ (inRange (dockWith (now map) (now closed) (now counts) (now held) (now types) rest) ≡ true) × (length (now line) ≡ 288)
+        × (allDigits (now line) ≡ true) ⌝ }
+    ensures { λ r. ⌜ steppedWith (now (map .exit)) (now (closed .exit)) (now (counts .exit)) (now (held .exit)) (now (types .entry)) r
+        ≡ steppedBy (swapOf (dockWith (now (map .entry)) (now (closed .entry)) (now (counts .entry)) (now (held .entry)) (now (types .entry)) rest) (bytesFrom (now (line .entry)) 0 144)) ⌝ }
 {
     let new = digits::map_in(line);
     let answered = swap::swap_in_place(map, closed, counts, held, types, rest, &new);
@@ -167,8 +177,10 @@ pub fn step_in_place(
     rest: Rest,
     line: &[u8],
 ) -> SteppedRest
-    requires { ⌜ (inRange (dockWith (now map) (now closed) (now counts) (now held) (now types) rest) ≡ true) × (length (now closed) ≡ 18) × (length (now counts) ≡ 144) ⌝ }
-    ensures { λ r. ⌜ steppedWith (now (map .exit)) (now (closed .exit)) (now (counts .exit)) (now (held .exit)) (now (types .exit)) r ≡ stepOf (dockWith (now (map .entry)) (now (closed .entry)) (now (counts .entry)) (now (held .entry)) (now (types .entry)) rest) (now (line .entry)) ⌝ }
+    requires { ⌜ (inRange (dockWith (now map) (now closed) (now counts) (now held) (now types) rest) ≡ true) × (length (now closed) ≡ 18)
+        × (length (now counts) ≡ 144) ⌝ }
+    ensures { λ r. ⌜ steppedWith (now (map .exit)) (now (closed .exit)) (now (counts .exit)) (now (held .exit)) (now (types .exit)) r
+        ≡ stepOf (dockWith (now (map .entry)) (now (closed .entry)) (now (counts .entry)) (now (held .entry)) (now (types .entry)) rest) (now (line .entry)) ⌝ }
 {
     let kind = text::kind_of(line);
     match kind {

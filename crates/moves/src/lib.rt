@@ -31,8 +31,10 @@ fn press(
     kind: u8,
     key: u8,
 ) -> OutgoingRest
-    requires { ⌜ (goodKeys (keysFrom (now held) (now bytes) rest) ≡ true) × (goodMode mode ≡ true) × (length (now bytes) ≡ 16) × (key < 144) × (now table ≡ laidOut) ⌝ }
-    ensures { λ r. ⌜ keysFrom (now (held .exit)) (now (bytes .exit)) r ≡ pressed (keysFrom (now (held .entry)) (now (bytes .entry)) rest) mode kind key ⌝ }
+    requires { ⌜ (goodKeys (keysFrom (now held) (now bytes) rest) ≡ true) × (goodMode mode ≡ true) × (length (now bytes) ≡ 16) × (key < 144)
+        × (now table ≡ laidOut) ⌝ }
+    ensures { λ r. ⌜ keysFrom (now (held .exit)) (now (bytes .exit)) r
+        ≡ pressed (keysFrom (now (held .entry)) (now (bytes .entry)) rest) mode kind key ⌝ }
 {
     let mut after = rest;
     after.length = send_press(held, bytes, rest.length as usize, table, mode, kind, key) as u8;
@@ -57,8 +59,10 @@ fn release(
     kind: u8,
     key: u8,
 ) -> OutgoingRest
-    requires { ⌜ (goodKeys (keysFrom (now held) (now bytes) rest) ≡ true) × (goodMode mode ≡ true) × (length (now bytes) ≡ 16) × (key < 144) × (now table ≡ laidOut) ⌝ }
-    ensures { λ r. ⌜ keysFrom (now (held .exit)) (now (bytes .exit)) r ≡ released (keysFrom (now (held .entry)) (now (bytes .entry)) rest) mode kind key ⌝ }
+    requires { ⌜ (goodKeys (keysFrom (now held) (now bytes) rest) ≡ true) × (goodMode mode ≡ true) × (length (now bytes) ≡ 16) × (key < 144)
+        × (now table ≡ laidOut) ⌝ }
+    ensures { λ r. ⌜ keysFrom (now (held .exit)) (now (bytes .exit)) r
+        ≡ released (keysFrom (now (held .entry)) (now (bytes .entry)) rest) mode kind key ⌝ }
 {
     let mut after = rest;
     after.length = send_release(held, bytes, rest.length as usize, table, mode, kind, key) as u8;
@@ -81,8 +85,10 @@ fn contact_turned(
     key: u8,
     closed: u8,
 ) -> OutgoingRest
-    requires { ⌜ (goodKeys (keysFrom (now held) (now bytes) rest) ≡ true) × (goodMode mode ≡ true) × (length (now bytes) ≡ 16) × (key ≤ lastKey) × (now table ≡ laidOut) ⌝ }
-    ensures { λ r. ⌜ keysFrom (now (held .exit)) (now (bytes .exit)) r ≡ moved (keysFrom (now (held .entry)) (now (bytes .entry)) rest) mode (now (types .entry)) key closed ⌝ }
+    requires { ⌜ (goodKeys (keysFrom (now held) (now bytes) rest) ≡ true) × (goodMode mode ≡ true) × (length (now bytes) ≡ 16) × (key ≤ lastKey)
+        × (now table ≡ laidOut) ⌝ }
+    ensures { λ r. ⌜ keysFrom (now (held .exit)) (now (bytes .exit)) r
+        ≡ moved (keysFrom (now (held .entry)) (now (bytes .entry)) rest) mode (now (types .entry)) key closed ⌝ }
 {
     if key == 0 {
         return rest;
@@ -107,8 +113,10 @@ fn column(
     was: u8,
     is: u8,
 ) -> OutgoingRest
-    requires { ⌜ (goodKeys (keysFrom (now held) (now bytes) rest) ≡ true) × (goodMode mode ≡ true) × (length (now bytes) ≡ 16) × (c < 18) × (allUpTo lastKey (now map) ≡ true) × (now table ≡ laidOut) ⌝ }
-    ensures { λ r. ⌜ keysFrom (now (held .exit)) (now (bytes .exit)) r ≡ rowsTo 8 mode (now (types .entry)) (now (map .entry)) c was is (keysFrom (now (held .entry)) (now (bytes .entry)) rest) ⌝ }
+    requires { ⌜ (goodKeys (keysFrom (now held) (now bytes) rest) ≡ true) × (goodMode mode ≡ true) × (length (now bytes) ≡ 16) × (c < 18)
+        × (allUpTo lastKey (now map) ≡ true) × (now table ≡ laidOut) ⌝ }
+    ensures { λ r. ⌜ keysFrom (now (held .exit)) (now (bytes .exit)) r
+        ≡ rowsTo 8 mode (now (types .entry)) (now (map .entry)) c was is (keysFrom (now (held .entry)) (now (bytes .entry)) rest) ⌝ }
 {
     let mut after = rest;
     let mut turned = (was ^ is) as u32;
@@ -140,7 +148,8 @@ pub fn turns(
     is: &Columns,
 ) -> Outgoing
     requires { ⌜ (goodKeys (keysWith (now held) outgoing) ≡ true) × (goodMode mode ≡ true) × (allUpTo lastKey (now map) ≡ true) ⌝ }
-    ensures { λ r. ⌜ keysWith (now (held .exit)) r ≡ turnsTo 144 mode (now (types .entry)) (now (map .entry)) (now (was .entry)) (now (is .entry)) (keysWith (now (held .entry)) outgoing) ⌝ }
+    ensures { λ r. ⌜ keysWith (now (held .exit)) r
+        ≡ turnsTo 144 mode (now (types .entry)) (now (map .entry)) (now (was .entry)) (now (is .entry)) (keysWith (now (held .entry)) outgoing) ⌝ }
 {
     let table = keys::table();
     let queue = outgoing.queue;

@@ -36,8 +36,10 @@ fn count(
     rest: Rest,
     scan: &[u8],
 ) -> Rest
-    requires { ⌜ (inRange (dockWith (now map) (now closed) (now counts) (now held) (now types) rest) ≡ true) × (length (now closed) ≡ 18) × (length (now counts) ≡ 144) × (length (now scan) ≡ 18) ⌝ }
-    ensures { λ r. ⌜ dockWith (now (map .entry)) (now (closed .exit)) (now (counts .exit)) (now (held .exit)) (now (types .entry)) r ≡ counting (dockWith (now (map .entry)) (now (closed .entry)) (now (counts .entry)) (now (held .entry)) (now (types .entry)) rest) (now (scan .entry)) ⌝ }
+    requires { ⌜ (inRange (dockWith (now map) (now closed) (now counts) (now held) (now types) rest) ≡ true) × (length (now closed) ≡ 18)
+        × (length (now counts) ≡ 144) × (length (now scan) ≡ 18) ⌝ }
+    ensures { λ r. ⌜ dockWith (now (map .entry)) (now (closed .exit)) (now (counts .exit)) (now (held .exit)) (now (types .entry)) r
+        ≡ counting (dockWith (now (map .entry)) (now (closed .entry)) (now (counts .entry)) (now (held .entry)) (now (types .entry)) rest) (now (scan .entry)) ⌝ }
 {
     let was = *closed;
     contacts::count(closed, counts, scan);
@@ -59,8 +61,10 @@ fn change(
     rest: Rest,
     scan: &[u8],
 ) -> Rest
-    requires { ⌜ (inRange (dockWith (now map) (now closed) (now counts) (now held) (now types) rest) ≡ true) × (length (now closed) ≡ 18) × (length (now counts) ≡ 144) × (length (now scan) ≡ 18) ⌝ }
-    ensures { λ r. ⌜ dockWith (now (map .entry)) (now (closed .exit)) (now (counts .exit)) (now (held .exit)) (now (types .entry)) r ≡ changed (dockWith (now (map .entry)) (now (closed .entry)) (now (counts .entry)) (now (held .entry)) (now (types .entry)) rest) (now (scan .entry)) ⌝ }
+    requires { ⌜ (inRange (dockWith (now map) (now closed) (now counts) (now held) (now types) rest) ≡ true) × (length (now closed) ≡ 18)
+        × (length (now counts) ≡ 144) × (length (now scan) ≡ 18) ⌝ }
+    ensures { λ r. ⌜ dockWith (now (map .entry)) (now (closed .exit)) (now (counts .exit)) (now (held .exit)) (now (types .entry)) r
+        ≡ changed (dockWith (now (map .entry)) (now (closed .entry)) (now (counts .entry)) (now (held .entry)) (now (types .entry)) rest) (now (scan .entry)) ⌝ }
 {
     if contacts::at_rest(closed, counts, scan) {
         return rest;
@@ -97,8 +101,10 @@ fn hear(
     rest: Rest,
     scan: &[u8],
 ) -> Rest
-    requires { ⌜ (inRange (dockWith (now map) (now closed) (now counts) (now held) (now types) rest) ≡ true) × (length (now closed) ≡ 18) × (length (now counts) ≡ 144) × (length (now scan) ≡ 18) ⌝ }
-    ensures { λ r. ⌜ dockWith (now (map .entry)) (now (closed .exit)) (now (counts .exit)) (now (held .exit)) (now (types .entry)) r ≡ heardScan (dockWith (now (map .entry)) (now (closed .entry)) (now (counts .entry)) (now (held .entry)) (now (types .entry)) rest) (now (scan .entry)) ⌝ }
+    requires { ⌜ (inRange (dockWith (now map) (now closed) (now counts) (now held) (now types) rest) ≡ true) × (length (now closed) ≡ 18)
+        × (length (now counts) ≡ 144) × (length (now scan) ≡ 18) ⌝ }
+    ensures { λ r. ⌜ dockWith (now (map .entry)) (now (closed .exit)) (now (counts .exit)) (now (held .exit)) (now (types .entry)) r
+        ≡ heardScan (dockWith (now (map .entry)) (now (closed .entry)) (now (counts .entry)) (now (held .entry)) (now (types .entry)) rest) (now (scan .entry)) ⌝ }
 {
     let outgoing = rest.outgoing;
     let mut after = rest;
@@ -117,8 +123,10 @@ pub fn scan_in_place(
     rest: Rest,
     scan: &[u8],
 ) -> AnsweredRest
-    requires { ⌜ (inRange (dockWith (now map) (now closed) (now counts) (now held) (now types) rest) ≡ true) × (length (now closed) ≡ 18) × (length (now counts) ≡ 144) ⌝ }
-    ensures { λ r. ⌜ answeredWith (now (map .entry)) (now (closed .exit)) (now (counts .exit)) (now (held .exit)) (now (types .entry)) r ≡ scanOf (dockWith (now (map .entry)) (now (closed .entry)) (now (counts .entry)) (now (held .entry)) (now (types .entry)) rest) (now (scan .entry)) ⌝ }
+    requires { ⌜ (inRange (dockWith (now map) (now closed) (now counts) (now held) (now types) rest) ≡ true) × (length (now closed) ≡ 18)
+        × (length (now counts) ≡ 144) ⌝ }
+    ensures { λ r. ⌜ answeredWith (now (map .entry)) (now (closed .exit)) (now (counts .exit)) (now (held .exit)) (now (types .entry)) r
+        ≡ scanOf (dockWith (now (map .entry)) (now (closed .entry)) (now (counts .entry)) (now (held .entry)) (now (types .entry)) rest) (now (scan .entry)) ⌝ }
 {
     if scan.len() != 18 {
         return AnsweredRest {

@@ -138,7 +138,8 @@ pub fn send_press(
     key: u8,
 ) -> usize
     requires { ⌜ (tidy (queueWith (now bytes) at) ≡ true) × (length (now bytes) ≡ 16) × (now table ≡ laidOut) ⌝ }
-    ensures { λ r. ⌜ queueWith (now (bytes .exit)) r ≡ queuedOf (queueWith (now (bytes .entry)) at) mode (sendsWith (now (held .entry)) mode kind key Press) ⌝ }
+    ensures { λ r. ⌜ queueWith (now (bytes .exit)) r
+        ≡ queuedOf (queueWith (now (bytes .entry)) at) mode (sendsWith (now (held .entry)) mode kind key Press) ⌝ }
 {
     if at == 16 {
         bytes[15] = mark_of(mode.set);
@@ -159,7 +160,8 @@ pub fn send_release(
     key: u8,
 ) -> usize
     requires { ⌜ (tidy (queueWith (now bytes) at) ≡ true) × (length (now bytes) ≡ 16) × (goodMode mode ≡ true) × (now table ≡ laidOut) ⌝ }
-    ensures { λ r. ⌜ queueWith (now (bytes .exit)) r ≡ queuedOf (queueWith (now (bytes .entry)) at) mode (sendsWith (now (held .entry)) mode kind key Release) ⌝ }
+    ensures { λ r. ⌜ queueWith (now (bytes .exit)) r
+        ≡ queuedOf (queueWith (now (bytes .entry)) at) mode (sendsWith (now (held .entry)) mode kind key Release) ⌝ }
 {
     if is_silent(mode.set, key, kind) {
         return at;

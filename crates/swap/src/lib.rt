@@ -21,7 +21,9 @@ ghost use Rattle.dock.specs.Swap.{remapped, swapOf};
 
 // The first swap drops contact history and the repeating key, and a handover opens. While one is open nothing but the map is replaced.
 fn open_handover(closed: &mut Columns, counts: &mut Counts, rest: Rest) -> Rest
-    ensures { λ r. ⌜ ((map held types new : List ℕ) → dockWith new (now (closed .exit)) (now (counts .exit)) held types r ≡ remapped (dockWith map (now (closed .entry)) (now (counts .entry)) held types rest) new) ⌝ }
+    ensures { λ r. ⌜ ((map held types new : List ℕ)
+        → dockWith new (now (closed .exit)) (now (counts .exit)) held types r
+        ≡ remapped (dockWith map (now (closed .entry)) (now (counts .entry)) held types rest) new) ⌝ }
 {
     if rest.handover {
         return rest;
@@ -50,7 +52,8 @@ pub fn swap_in_place(
     new: &[u8],
 ) -> AnsweredRest
     requires { ⌜ inRange (dockWith (now map) (now closed) (now counts) (now held) (now types) rest) ≡ true ⌝ }
-    ensures { λ r. ⌜ answeredWith (now (map .exit)) (now (closed .exit)) (now (counts .exit)) (now (held .exit)) (now (types .entry)) r ≡ swapOf (dockWith (now (map .entry)) (now (closed .entry)) (now (counts .entry)) (now (held .entry)) (now (types .entry)) rest) (now (new .entry)) ⌝ }
+    ensures { λ r. ⌜ answeredWith (now (map .exit)) (now (closed .exit)) (now (counts .exit)) (now (held .exit)) (now (types .entry)) r
+        ≡ swapOf (dockWith (now (map .entry)) (now (closed .entry)) (now (counts .entry)) (now (held .entry)) (now (types .entry)) rest) (now (new .entry)) ⌝ }
 {
     if new.len() != 144 {
         return AnsweredRest {

@@ -30,7 +30,10 @@ pub fn frame_in_place(
     number: u32,
 ) -> AnsweredRest
     requires { ⌜ restInRange (now held) (now types) rest ≡ true ⌝ }
-    ensures { λ r. ⌜ ((map : List ℕ) → inRange (dockWith map (now (closed .entry)) (now (counts .entry)) (now (held .entry)) (now (types .entry)) rest) ≡ true → answeredWith map (now (closed .exit)) (now (counts .exit)) (now (held .exit)) (now (types .exit)) r ≡ frameOf (dockWith map (now (closed .entry)) (now (counts .entry)) (now (held .entry)) (now (types .entry)) rest) number) ⌝ }
+    ensures { λ r. ⌜ ((map : List ℕ)
+        → inRange (dockWith map (now (closed .entry)) (now (counts .entry)) (now (held .entry)) (now (types .entry)) rest) ≡ true
+        → answeredWith map (now (closed .exit)) (now (counts .exit)) (now (held .exit)) (now (types .exit)) r
+        ≡ frameOf (dockWith map (now (closed .entry)) (now (counts .entry)) (now (held .entry)) (now (types .entry)) rest) number) ⌝ }
 {
     let unpacked = frames::unpack(number);
     match unpacked {

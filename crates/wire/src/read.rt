@@ -31,7 +31,9 @@ fn remember(rest: Rest, byte: u8) -> Rest
 // The oldest reply.
 fn take_reply(held: &mut Held, types: &Types, rest: Rest) -> TakenRest
     requires { ⌜ (restInRange (now held) (now types) rest ≡ true) × (1 ≤ rest .replies .length) ⌝ }
-    ensures { λ r. ⌜ ((map closed counts : List ℕ) → takenWith map closed counts (now (held .exit)) (now (types .entry)) r ≡ replyTaken (dockWith map closed counts (now (held .entry)) (now (types .entry)) rest)) ⌝ }
+    ensures { λ r. ⌜ ((map closed counts : List ℕ)
+        → takenWith map closed counts (now (held .exit)) (now (types .entry)) r
+        ≡ replyTaken (dockWith map closed counts (now (held .entry)) (now (types .entry)) rest)) ⌝ }
 {
     let replies = rest.replies;
     let byte = replies.bytes[0];
@@ -46,7 +48,9 @@ fn take_reply(held: &mut Held, types: &Types, rest: Rest) -> TakenRest
 // The oldest key byte.
 fn take_key_byte(held: &mut Held, types: &Types, rest: Rest) -> TakenRest
     requires { ⌜ (restInRange (now held) (now types) rest ≡ true) × (1 ≤ rest .outgoing .queue .length) ⌝ }
-    ensures { λ r. ⌜ ((map closed counts : List ℕ) → takenWith map closed counts (now (held .exit)) (now (types .entry)) r ≡ keyByteTaken (dockWith map closed counts (now (held .entry)) (now (types .entry)) rest)) ⌝ }
+    ensures { λ r. ⌜ ((map closed counts : List ℕ)
+        → takenWith map closed counts (now (held .exit)) (now (types .entry)) r
+        ≡ keyByteTaken (dockWith map closed counts (now (held .entry)) (now (types .entry)) rest)) ⌝ }
 {
     let mut outgoing = rest.outgoing;
     let queue = outgoing.queue;
@@ -63,7 +67,10 @@ fn take_key_byte(held: &mut Held, types: &Types, rest: Rest) -> TakenRest
 // The read call in place, of a record in its range, whatever the map and the contacts are.
 pub fn read_in_place(held: &mut Held, types: &Types, rest: Rest) -> TakenRest
     requires { ⌜ restInRange (now held) (now types) rest ≡ true ⌝ }
-    ensures { λ r. ⌜ ((map closed counts : List ℕ) → inRange (dockWith map closed counts (now (held .entry)) (now (types .entry)) rest) ≡ true → takenWith map closed counts (now (held .exit)) (now (types .entry)) r ≡ readOf (dockWith map closed counts (now (held .entry)) (now (types .entry)) rest)) ⌝ }
+    ensures { λ r. ⌜ ((map closed counts : List ℕ)
+        → inRange (dockWith map closed counts (now (held .entry)) (now (types .entry)) rest) ≡ true
+        → takenWith map closed counts (now (held .exit)) (now (types .entry)) r
+        ≡ readOf (dockWith map closed counts (now (held .entry)) (now (types .entry)) rest)) ⌝ }
 {
     let replies = rest.replies;
     if replies.length != 0 {
