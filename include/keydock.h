@@ -23,10 +23,11 @@
  * Where a result is an int32_t, 0 or more is an answer. A refusal is negative: minus the
  * number that the dock's rules have for it. A refused call changes nothing.
  *
- * Every function is proved to answer as said here for every argument, so any number may be
- * passed: one that is out of its range is refused. (A negative number becomes a large one on its
- * way to a uint32_t, and a number over 255 loses its upper bits on its way to a uint8_t.) The one
- * thing that no function can look at is whether the memory at `out` is there.
+ * Every function of the library is proved to answer for every argument, and tested to answer as
+ * said here. So any number may be passed: one that is out of its range is refused. (A negative
+ * number becomes a large one on its way to a uint32_t, and a number over 255 loses its upper bits
+ * on its way to a uint8_t.) The one thing that no function can look at is whether the memory at
+ * `out` is there.
  *
  * Nothing is kept between calls and nothing is allocated. All functions may be called from
  * any number of threads at once.

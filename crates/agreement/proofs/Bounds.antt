@@ -16,7 +16,7 @@ use Rattle.dock.specs.Closing.{closing}
 use Rattle.dock.specs.Scan.{listening, counting, changed, repeating, heardScan, scanned, scanOf}
 use Rattle.dock.specs.Swap.{opened, remapped, swapped, swapOf}
 use Rattle.dock.specs.Frame.{tookFrame, frameOf}
-use Rattle.dock.specs.Read.{oldest, behindIt, oldestReply, repliesBehind, remembering, replyTaken, keyByteTaken, read, readOf}
+use Rattle.dock.specs.Read.{oldest, withoutOldest, oldestReply, repliesBehind, remembering, replyTaken, keyByteTaken, read, readOf}
 use Rattle.frames.specs.declared.Unpacked.{Unpacked}
 use Rattle.frames.specs.declared.Unpacked.the-variants.{Byte, Broken, TooLarge}
 use Rattle.frames.specs.Frames.{unpackedOf}
@@ -106,7 +106,7 @@ read-roomy d r =
     (picked Fine (eqb (d .replies .length) 0) _ _
     (picked Fine (eqb (q .length) 0) _ (keyByteTaken d)
     (rw (closing-replies d) r)
-    (rw (closing-replies (remembering (withKeys d (withQueue (d .keys) (behindIt q))) (oldest q))) r))
+    (rw (closing-replies (remembering (withKeys d (withQueue (d .keys) (withoutOldest q))) (oldest q))) r))
     (rw (closing-replies (remembering (withReplies d (repliesBehind (d .replies))) (oldestReply (d .replies))))
     (behind-roomy (d .replies) r)))
     r

@@ -14,7 +14,7 @@ use Rattle.keys.specs.Keys.{lastKey}
 use Rattle.dock.specs.declared.Taken.{Taken}
 use Rattle.dock.specs.Closing.{withHanded, closing}
 use Rattle.dock.specs.Scan.{quiet}
-use Rattle.dock.specs.Read.{oldest, behindIt, oldestReply, repliesBehind, remembering, replyTaken, keyByteTaken, read, readOf}
+use Rattle.dock.specs.Read.{oldest, withoutOldest, oldestReply, repliesBehind, remembering, replyTaken, keyByteTaken, read, readOf}
 use Rattle.keying.specs.Handover.{handedOver}
 use Rattle.queue.specs.Queues.{waiting}
 use Rattle.replies.specs.Replies.{waitingReplies}
@@ -80,7 +80,7 @@ module _ (w : World) (s : Steady w) where
       (λ empty. never (quiet d) (rw (none, empty)) waits)
       (λ some.
       let first = some-wait q (s .sound .settled .ready .places .bytes) (eqb-false (q .length) 0 some) in
-      let rest = remembering (withKeys d (withQueue (d .keys) (behindIt q))) (oldest q) in
+      let rest = remembering (withKeys d (withQueue (d .keys) (withoutOldest q))) (oldest q) in
       omega (arith, closing-less rest, ap length (waiting-queueOf (drop 1 (waiting q))), fewer (waiting q) first)))
       (λ some.
       let replies = waitingReplies (d .replies) in

@@ -15,7 +15,7 @@ use Rattle.queue.specs.declared.Queue.{Queue}
 use Rattle.queue.specs.Queues.{waiting}
 use Rattle.record.specs.declared.Keys.{Keys}
 use Rattle.record.specs.declared.Dock.{Dock}
-use Rattle.telling.specs.Agreeing.{Outside, Repeats}
+use Rattle.telling.specs.Agreeing.{NoneOutside, RepeatsHeld}
 use Rattle.telling.proofs.Told.{Told, handed-told}
 use Rattle.terminal.specs.Terminals.{Terminal}
 
@@ -35,7 +35,7 @@ unfolding waiting
 none-wait q e = rw e
 
 -- The key that repeats is a key.
-pub repeats-within : (k : Keys) → Outside (k .held) → Repeats k → k .repeating ≤ lastKey
+pub repeats-within : (k : Keys) → NoneOutside (k .held) → RepeatsHeld k → k .repeating ≤ lastKey
 repeats-within k out some = go (leb (k .repeating) lastKey) refl
   where
     go : (b : Bool) → leb (k .repeating) lastKey ≡ b → k .repeating ≤ lastKey

@@ -10,7 +10,7 @@ use Rattle.dock.specs.declared.Given.the-variants.{Nothing, Reply, KeyByte}
 use Rattle.dock.specs.declared.Taken.{Taken}
 use Rattle.dock.specs.Answers.{taken}
 use Rattle.dock.specs.Closing.{closing}
-use Rattle.dock.specs.Read.{oldest, behindIt, oldestReply, repliesBehind, remembering, replyTaken, keyByteTaken, read, readOf}
+use Rattle.dock.specs.Read.{oldest, withoutOldest, oldestReply, repliesBehind, remembering, replyTaken, keyByteTaken, read, readOf}
 use Rattle.queue.specs.Queues.{waiting}
 use Rattle.replies.specs.Replies.{waitingReplies}
 use Rattle.replies.proofs.ReplyMeaning.{waiting-repliesOf}
@@ -65,7 +65,7 @@ read-leaves w s =
     let same : waitingReplies (d .replies) ≡ drop 1 (waitingReplies (d .replies)) = empty ∙ sym (ap (λ (l : List ℕ). drop 1 l) empty) in
     picked Left (eqb (q .length) 0) (taken Nothing (closing d)) (keyByteTaken d)
     (rw (closing-replies d) same)
-    (rw (closing-replies (remembering (withKeys d (withQueue (d .keys) (behindIt q))) (oldest q))) same))
+    (rw (closing-replies (remembering (withKeys d (withQueue (d .keys) (withoutOldest q))) (oldest q))) same))
     (λ some.
     rw (closing-replies (remembering (withReplies d (repliesBehind (d .replies))) (oldestReply (d .replies))))
     (waiting-repliesOf (drop 1 (waitingReplies (d .replies))))))

@@ -21,7 +21,7 @@ use Rattle.dock.specs.Answers.{isAccepted, answered, taken}
 use Rattle.dock.specs.Closing.{closing}
 use Rattle.dock.specs.Swap.{opened, remapped, swapped, swapOf}
 use Rattle.dock.specs.Frame.{tookFrame, frameOf}
-use Rattle.dock.specs.Read.{oldest, behindIt, oldestReply, repliesBehind, remembering, replyTaken, keyByteTaken, read, readOf}
+use Rattle.dock.specs.Read.{oldest, withoutOldest, oldestReply, repliesBehind, remembering, replyTaken, keyByteTaken, read, readOf}
 use Rattle.frames.specs.declared.Unpacked.{Unpacked}
 use Rattle.frames.specs.declared.Unpacked.the-variants.{Byte, Broken, TooLarge}
 use Rattle.frames.specs.Frames.{unpackedOf}
@@ -111,7 +111,7 @@ read-bytes w s =
     (by-cases Kept (eqb (q .length) 0) (taken Nothing (closing d)) (keyByteTaken d)
     (λ none. sym (closing-bytes d))
     (λ some.
-    let rest = withKeys d (withQueue (d .keys) (behindIt q)) in
+    let rest = withKeys d (withQueue (d .keys) (withoutOldest q)) in
     let first = first-and-rest (waiting q) (some-wait q (s .settled .ready .places .bytes) (eqb-false (q .length) 0 some)) in
     let after = closing-bytes (remembering rest (oldest q))
     ∙ ap (λ (l : List ℕ). l ++ closingBytes rest) (waiting-queueOf (drop 1 (waiting q))) in

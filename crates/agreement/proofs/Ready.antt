@@ -19,7 +19,7 @@ use Rattle.maps.specs.Maps.{hasDouble}
 use Rattle.queue.specs.Queues.{waiting}
 use Rattle.record.specs.declared.Keys.{Keys}
 use Rattle.record.specs.declared.Dock.{Dock}
-use Rattle.telling.specs.Agreeing.{Agrees, Once, Outside, Repeats}
+use Rattle.telling.specs.Agreeing.{Agrees, EachOnce, NoneOutside, RepeatsHeld}
 use Rattle.basics.proofs.Cases.{by-cases, never}
 use Rattle.telling.proofs.Held.{none-agree, contact-open}
 use Rattle.telling.proofs.Handing.{handed-outside, handed-all, handed-waits}
@@ -32,8 +32,8 @@ pub record Ready (map : List ℕ) (contacts : Contacts) (keys : Keys) (handover 
   pub entries : allUpTo lastKey map ≡ true
   pub single : hasDouble map ≡ false
   pub places : Places keys
-  pub outside : Outside (keys .held)
-  pub repeats : Repeats keys
+  pub outside : NoneOutside (keys .held)
+  pub repeats : RepeatsHeld keys
   pub seen : contacts ≡ countedAll unseen scans
   pub agree : handover ≡ false → Agrees map (contacts .closed) (keys .held)
   pub anew : handover ≡ true → scans ≡ []
@@ -48,7 +48,7 @@ pub record Settled (d : Dock) (scans : List (List ℕ)) : Type 0 where
 
 -- Other keys with the same flags will do.
 pub same-flags : (map : List ℕ) (contacts : Contacts) (k : Keys) (handover : Bool) (scans : List (List ℕ)) → Ready map contacts k handover scans
-    → (l : Keys) → l .held ≡ k .held → length (l .queue .bytes) ≡ 16 → Repeats l → Ready map contacts l handover scans
+    → (l : Keys) → l .held ≡ k .held → length (l .queue .bytes) ≡ 16 → RepeatsHeld l → Ready map contacts l handover scans
 same-flags map contacts k handover scans r l same bytes repeats =
     record {
       long = r .long;
@@ -62,7 +62,7 @@ same-flags map contacts k handover scans r l same bytes repeats =
       anew = r .anew;
     }
 
-pub at-once : (map : List ℕ) → length map ≡ 144 → hasDouble map ≡ false → Once map
+pub at-once : (map : List ℕ) → length map ≡ 144 → hasDouble map ≡ false → EachOnce map
 at-once map long single p q hp hq same some = one-place map single p q (omega arith) (omega arith) same some
 
 -- Contacts of which no scan says anything are open.

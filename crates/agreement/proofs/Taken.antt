@@ -11,7 +11,7 @@ use Rattle.dock.specs.declared.Taken.{Taken}
 use Rattle.dock.specs.declared.Given.the-variants.{Nothing}
 use Rattle.dock.specs.Answers.{taken}
 use Rattle.dock.specs.Closing.{closing}
-use Rattle.dock.specs.Read.{oldest, behindIt, oldestReply, repliesBehind, remembering, replyTaken, keyByteTaken, read, readOf}
+use Rattle.dock.specs.Read.{oldest, withoutOldest, oldestReply, repliesBehind, remembering, replyTaken, keyByteTaken, read, readOf}
 use Rattle.queue.specs.declared.Queue.{Queue}
 use Rattle.queue.specs.Queues.{waiting}
 use Rattle.queue.proofs.Meaning.{places-queueOf}
@@ -26,17 +26,17 @@ use Rattle.agreement.proofs.Following.{Follows, closing-follows}
 use Rattle.agreement.proofs.Ready.{IsReady, Settled, same-flags, closing-settled}
 
 -- The queue without its oldest byte has its 16 places.
-behind-places : (q : Queue) → length (q .bytes) ≡ 16 → length (behindIt q .bytes) ≡ 16
+behind-places : (q : Queue) → length (q .bytes) ≡ 16 → length (withoutOldest q .bytes) ≡ 16
 unfolding waiting
 behind-places q e =
     let bytes = take (q .length) (q .bytes) in
     places-queueOf (drop 1 bytes) (omega (arith, length-drop 1 bytes, length-take (q .length) (q .bytes)))
 
 byte-ready : (d : Dock) (scans : List (List ℕ)) → IsReady d scans
-    → IsReady (withKeys d (withQueue (d .keys) (behindIt (d .keys .queue)))) scans
+    → IsReady (withKeys d (withQueue (d .keys) (withoutOldest (d .keys .queue)))) scans
 byte-ready d scans r =
     let q = d .keys .queue in
-    same-flags (d .map) (d .contacts) (d .keys) (d .handover) scans r (withQueue (d .keys) (behindIt q)) refl
+    same-flags (d .map) (d .contacts) (d .keys) (d .handover) scans r (withQueue (d .keys) (withoutOldest q)) refl
     (behind-places q (r .places .bytes)) (r .repeats)
 
 pub read-settled : (d : Dock) (scans : List (List ℕ)) → inRange d ≡ true → Settled d scans → Settled (readOf d .dock) scans
@@ -48,7 +48,7 @@ read-settled d scans range s =
     (picked Fine (eqb (d .replies .length) 0) _ _
     (picked Fine (eqb (q .length) 0) (taken Nothing (closing d)) (keyByteTaken d)
     (closing-settled d scans (s .ready))
-    (closing-settled (remembering (withKeys d (withQueue (d .keys) (behindIt q))) (oldest q)) scans (byte-ready d scans (s .ready))))
+    (closing-settled (remembering (withKeys d (withQueue (d .keys) (withoutOldest q))) (oldest q)) scans (byte-ready d scans (s .ready))))
     (closing-settled (remembering (withReplies d (repliesBehind (d .replies))) (oldestReply (d .replies))) scans (s .ready)))
 
 -- A queue of some length holds some bytes.
@@ -58,7 +58,7 @@ some-wait q places some = omega (arith, length-take (q .length) (q .bytes))
 
 -- The terminal takes a key byte.
 byte-follows : (d : Dock) (t : Terminal) → 1 ≤ length (waiting (d .keys .queue)) → Follows d t
-    → Follows (withKeys d (withQueue (d .keys) (behindIt (d .keys .queue)))) (hears (d .mode .set) t (oldest (d .keys .queue)))
+    → Follows (withKeys d (withQueue (d .keys) (withoutOldest (d .keys .queue)))) (hears (d .mode .set) t (oldest (d .keys .queue)))
 byte-follows d t some f = record { chosen = f .chosen; firm = f .firm; told = byte-told (d .mode .set) t (d .keys) some (f .told) }
 
 pub read-follows : (d : Dock) (scans : List (List ℕ)) (t : Terminal) → inRange d ≡ true → Settled d scans → Follows d t
@@ -73,7 +73,7 @@ read-follows d scans t range s f =
     (λ none. closing-follows d t f)
     (λ some.
     let heard = byte-follows d t (some-wait q (s .ready .places .bytes) (eqb-false (q .length) 0 some)) f in
-    closing-follows (remembering (withKeys d (withQueue (d .keys) (behindIt q))) (oldest q)) (hears (d .mode .set) t (oldest q))
+    closing-follows (remembering (withKeys d (withQueue (d .keys) (withoutOldest q))) (oldest q)) (hears (d .mode .set) t (oldest q))
     heard))
     (closing-follows (remembering (withReplies d (repliesBehind (d .replies))) (oldestReply (d .replies))) t
     f))

@@ -52,7 +52,7 @@ disabled d = withScanning (defaulted d) false
 
 -- F7 to FA: nothing queued, and every key has the same type.
 abbrev pub typed : ℕ → Dock → Dock
-typed kind d = withTypes (cleared d) (replicate (suc lastKey) kind)
+typed type d = withTypes (cleared d) (replicate (suc lastKey) type)
 
 -- FF: as at power-on, but for the map. The replies are replaced when the command is answered.
 abbrev pub restarted : Dock → Dock

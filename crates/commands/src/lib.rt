@@ -101,11 +101,11 @@ fn reset(
         (now (closed .exit)) (now (counts .exit)) (now (held .exit)) (now (types .exit)) r ⌝ }
 {
     let no_columns = [0; 18];
-    let no_keys = [0; 144];
+    let zeros = [0; 144];
     let defaults = record::power::default_types();
     *closed = no_columns;
-    *counts = no_keys;
-    *held = no_keys;
+    *counts = zeros;
+    *held = zeros;
     *types = defaults;
     let replies = rest.replies;
     record::power::fresh_rest(replies)

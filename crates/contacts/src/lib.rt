@@ -19,7 +19,7 @@ pub struct Contacts {
 }
 
 // So many counted scans in a row against a contact, and the next one turns it.
-const NEARLY: u8 = 2;
+const ALL_BUT_THE_LAST: u8 = 2;
 
 // A contact that is shown `otherwise` than it counts (its bit, else 0): its count after this scan,
 fn next_count(otherwise: u8, count: u8) -> u8
@@ -28,7 +28,7 @@ fn next_count(otherwise: u8, count: u8) -> u8
     if otherwise == 0 {
         return 0;
     }
-    if count < NEARLY {
+    if count < ALL_BUT_THE_LAST {
         return count + 1;
     }
     0
@@ -38,7 +38,11 @@ fn next_count(otherwise: u8, count: u8) -> u8
 fn turning(otherwise: u8, count: u8) -> u8
     ensures { λ r. ⌜ r ≡ nextClosed otherwise 0 count ⌝ }
 {
-    if count < NEARLY { 0 } else { otherwise }
+    if count < ALL_BUT_THE_LAST {
+        0
+    } else {
+        otherwise
+    }
 }
 
 // A column that shows what counts: no row of scans is under way in it any more.

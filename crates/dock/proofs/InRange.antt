@@ -42,7 +42,7 @@ use Rattle.dock.specs.Closing.{closing, restInRange}
 use Rattle.dock.specs.Scan.{listening, counting, changed, quiet, repeating, heardScan, scanned, scanOf}
 use Rattle.dock.specs.Swap.{opened, remapped, swapped, swapOf}
 use Rattle.dock.specs.Frame.{tookFrame, frameOf}
-use Rattle.dock.specs.Read.{oldest, behindIt, oldestReply, repliesBehind, remembering, replyTaken, keyByteTaken, read, readOf}
+use Rattle.dock.specs.Read.{oldest, withoutOldest, oldestReply, repliesBehind, remembering, replyTaken, keyByteTaken, read, readOf}
 
 -- The rest of a record in its range is in its range by itself.
 pub rest-in-range : (map closed counts held types : List ℕ) (r : Rest) → inRange (dockWith map closed counts held types r) ≡ true
@@ -116,11 +116,11 @@ reply-in-range : (d : Dock) → inRange d ≡ true → inRange (withReplies d (r
 reply-in-range d h = in-range-with-replies d h _ (popped-replies-tidy (d .replies) (in-range-replies d h))
 
 key-byte-in-range : (d : Dock) → inRange d ≡ true
-    → inRange (withKeys d (withQueue (d .keys) (behindIt (d .keys .queue)))) ≡ true
+    → inRange (withKeys d (withQueue (d .keys) (withoutOldest (d .keys .queue)))) ≡ true
 key-byte-in-range d h =
     let good = in-range-keys d h in
     let tidied = popped-tidy (d .keys .queue) (good-keys-queue (d .keys) good) in
-    in-range-with-keys d h _ (good-keys-with-queue (d .keys) good (behindIt (d .keys .queue)) tidied)
+    in-range-with-keys d h _ (good-keys-with-queue (d .keys) good (withoutOldest (d .keys .queue)) tidied)
 
 -- Which byte was given makes no difference to that.
 module _ (d : Dock) (h : inRange d ≡ true) (byte : ℕ) (kept : Dock) where
@@ -130,11 +130,11 @@ module _ (d : Dock) (h : inRange d ≡ true) (byte : ℕ) (kept : Dock) where
   reply-leaves-range rest e k =
       rw (k, e) (in-range-with-given (withReplies d (repliesBehind (d .replies))) (reply-in-range d h) _)
 
-  pub key-byte-leaves-range : (rest : Queue) → rest ≡ behindIt (d .keys .queue) → kept ≡ remembering (withKeys d (withQueue (d .keys) rest)) byte
+  pub key-byte-leaves-range : (rest : Queue) → rest ≡ withoutOldest (d .keys .queue) → kept ≡ remembering (withKeys d (withQueue (d .keys) rest)) byte
       → inRange kept ≡ true
   unfolding remembering
   key-byte-leaves-range rest e k =
-      rw (k, e) (in-range-with-given (withKeys d (withQueue (d .keys) (behindIt (d .keys .queue)))) (key-byte-in-range d h) _)
+      rw (k, e) (in-range-with-given (withKeys d (withQueue (d .keys) (withoutOldest (d .keys .queue)))) (key-byte-in-range d h) _)
 
 reply-taken-in-range : (d : Dock) → inRange d ≡ true → inRange (replyTaken d .dock) ≡ true
 unfolding replyTaken
@@ -144,7 +144,7 @@ reply-taken-in-range d h =
 key-byte-taken-in-range : (d : Dock) → inRange d ≡ true → inRange (keyByteTaken d .dock) ≡ true
 unfolding keyByteTaken
 key-byte-taken-in-range d h =
-    closing-in-range _ (key-byte-leaves-range d h (oldest (d .keys .queue)) _ (behindIt (d .keys .queue)) refl refl)
+    closing-in-range _ (key-byte-leaves-range d h (oldest (d .keys .queue)) _ (withoutOldest (d .keys .queue)) refl refl)
 
 abbrev KeptToo : Taken → Type 0
 KeptToo t = inRange (t .dock) ≡ true

@@ -17,7 +17,7 @@ use Rattle.dock.specs.declared.Given.the-variants.{Nothing, Reply, KeyBy
 use Rattle.dock.specs.declared.Taken.{Taken}
 use Rattle.dock.specs.Answers.{taken}
 use Rattle.dock.specs.Closing.{closing}
-use Rattle.dock.specs.Read.{oldest, behindIt, oldestReply, repliesBehind, remembering, replyTaken, keyByteTaken, read, readOf}
+use Rattle.dock.specs.Read.{oldest, withoutOldest, oldestReply, repliesBehind, remembering, replyTaken, keyByteTaken, read, readOf}
 
 -- The oldest byte of a queue stands in front, and so does the oldest reply.
 front : (n : ℕ) (l : List ℕ) → 1 ≤ n → getD l 0 0 ≡ getD (take n l) 0 0
@@ -40,7 +40,7 @@ module _ (d : Dock) (byte : ℕ) (kept r : Dock) (i : r ≡ closing kept) where
   unfolding replyTaken
   reply-given rest b e k = rw (i, k, e, b)
 
-  pub key-byte-given : (rest : Queue) → byte ≡ oldest (d .keys .queue) → rest ≡ behindIt (d .keys .queue)
+  pub key-byte-given : (rest : Queue) → byte ≡ oldest (d .keys .queue) → rest ≡ withoutOldest (d .keys .queue)
       → kept ≡ remembering (withKeys d (withQueue (d .keys) rest)) byte → taken (KeyByte byte) r ≡ keyByteTaken d
   unfolding keyByteTaken
   key-byte-given rest b e k = rw (i, k, e, b)

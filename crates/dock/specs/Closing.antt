@@ -20,12 +20,12 @@ withHanded d h = withHandover (withKeys d (h .keys)) (h .unfinished)
 unfoldable pub closing : Dock → Dock
 closing d = pick (d .handover) (withHanded d (handedOver (d .keys) (d .mode) (d .types))) d
 
--- All that is passed by value is in its range: so it is with no map and no contacts.
+-- All that is passed by value is in its range: inRange asks nothing of contacts, flags and types, and an empty map has no entry to ask of.
 abbrev pub restInRange : List ℕ → List ℕ → Rest → Bool
 restInRange held types r = inRange (dockWith [] [] [] held types r)
 
 -- What a function promises that does f to the record in place and is lent the flags of held keys and the types, which it leaves as they
--- are: r is the rest that it is passed, e the one that it gives back, and the arrays that are not lent may be any.
+-- are: `before` is the rest that it is passed, `after` the one that it gives back, and the arrays that are not lent may be any.
 abbrev pub HeldAfter : (Dock → Dock) → List ℕ → List ℕ → Rest → List ℕ → Rest → Type 0
-HeldAfter f held types r newHeld e =
-    (map closed counts : List ℕ) → dockWith map closed counts newHeld types e ≡ f (dockWith map closed counts held types r)
+HeldAfter f held types before newHeld after =
+    (map closed counts : List ℕ) → dockWith map closed counts newHeld types after ≡ f (dockWith map closed counts held types before)

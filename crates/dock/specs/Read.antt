@@ -19,8 +19,8 @@ use Rattle.dock.specs.Closing.{closing}
 abbrev pub oldest : Queue → ℕ
 oldest q = getD (waiting q) 0 0
 
-abbrev pub behindIt : Queue → Queue
-behindIt q = queueOf (drop 1 (waiting q))
+abbrev pub withoutOldest : Queue → Queue
+withoutOldest q = queueOf (drop 1 (waiting q))
 
 -- The same of the replies.
 abbrev pub oldestReply : Replies → ℕ
@@ -43,7 +43,7 @@ replyTaken d =
 unfoldable pub keyByteTaken : Dock → Taken
 keyByteTaken d =
     let q = d .keys .queue in
-    taken (KeyByte (oldest q)) (closing (remembering (withKeys d (withQueue (d .keys) (behindIt q))) (oldest q)))
+    taken (KeyByte (oldest q)) (closing (remembering (withKeys d (withQueue (d .keys) (withoutOldest q))) (oldest q)))
 
 -- The oldest reply, else the oldest key byte, else nothing.
 unfoldable pub read : Dock → Taken

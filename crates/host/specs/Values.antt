@@ -15,7 +15,7 @@ abbrev pub withIndicators : ℕ → Dock → Dock
 withIndicators indicators d = withMode d (record { set = d .mode .set; rate = d .mode .rate; indicators = indicators })
 
 abbrev pub withType : ℕ → ℕ → Dock → Dock
-withType key kind d = withTypes d (set (d .types) key kind)
+withType key type d = withTypes d (set (d .types) key type)
 
 -- A value that a command takes: indicators 0 to 7, a set, a rate below 80, the set 3 code of a key. No other byte takes one.
 unfoldable pub rightValue : ℕ → ℕ → Bool

@@ -4,7 +4,7 @@ use record::Outgoing;
 
 pub mod repeating; // repeating.rt: the key that repeats
 
-// The keys after a handover went on, and whether it is still open. Definitions speak of it; the code gives the next.
+// The keys after a handover went on, and whether it is still open. Definitions speak of it; functions give the next.
 pub struct Handed {
     pub keys: Keys,
     pub unfinished: bool,

@@ -61,6 +61,6 @@ pub fn repeat(held: &Held, outgoing: Outgoing, mode: Mode, types: &Types, quiet:
     if !quiet {
         return after;
     }
-    after.queue = queue::holding(bytes_of(held, mode, kind, key, Action::Repeat));
+    after.queue = queue::alone(bytes_of(held, mode, kind, key, Action::Repeat));
     after
 }

@@ -141,10 +141,11 @@ rows =
     row 0xe05d 0xe02f 0x8d makeBreak ∷  -- 104 APP
     []
 
--- The rows as the code lays them out: each as its four numbers.
+-- A row as the code lays it out: its four numbers.
 abbrev pub numbersOf : Row → List ℕ
 numbersOf r = r .0 ∷ r .1 ∷ r .2 ∷ r .3 ∷ []
 
+-- The whole table so.
 unfoldable pub laidOut : List (List ℕ)
 laidOut = map numbersOf rows
 

@@ -1,6 +1,6 @@
 // The key table: what each of the 104 keys is called on the wire (docs/RULES.md, section 1).
-// It is the lowest part: whoever wants a code asks here, and nothing else names the table. Two other parts have tables of their
-// own, which their proofs compute from this one: the way back from a code (lookup), and the default types (record::power).
+// Whoever wants a row is lent the table, and nothing else names it. Two other parts have tables of their own, which their proofs
+// compute from this one: the way back from a code (lookup), and the default types (record::power).
 ghost use mathlib.Core.Path.{_≡_};
 ghost use Rattle.keys.specs.Keys.{laidOut, rowOf};
 

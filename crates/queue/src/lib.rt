@@ -103,7 +103,7 @@ pub fn popped(queue: Queue) -> Queue
 }
 
 // The queue that holds a sequence alone.
-pub fn holding(sequence: Sequence) -> Queue
+pub fn alone(sequence: Sequence) -> Queue
     requires { ⌜ sequence .length ≤ 8 ⌝ }
     ensures { λ r. ⌜ r ≡ queueOf (contents sequence) ⌝ }
 {

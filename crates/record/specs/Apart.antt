@@ -47,16 +47,16 @@ withOutgoing r o =
       given = r .given;
     }
 
--- What a function promises that does f to the record in place: r is the rest that it is passed, e the one that it gives back. The first
--- is lent no array, the second the types, the third all arrays but the map; those that are not lent may be any.
+-- What a function promises that does f to the record in place: `before` is the rest that it is passed, `after` the one that it gives back.
+-- The first is lent no array, the second the types, the third all arrays but the map; those that are not lent may be any.
 abbrev pub RestAfter : (Dock → Dock) → Rest → Rest → Type 0
-RestAfter f r e =
-    (map closed counts held types : List ℕ) → dockWith map closed counts held types e ≡ f (dockWith map closed counts held types r)
+RestAfter f before after =
+    (map closed counts held types : List ℕ) → dockWith map closed counts held types after ≡ f (dockWith map closed counts held types before)
 
 abbrev pub TypesAfter : (Dock → Dock) → List ℕ → Rest → List ℕ → Rest → Type 0
-TypesAfter f types r newTypes e =
-    (map closed counts held : List ℕ) → dockWith map closed counts held newTypes e ≡ f (dockWith map closed counts held types r)
+TypesAfter f types before newTypes after =
+    (map closed counts held : List ℕ) → dockWith map closed counts held newTypes after ≡ f (dockWith map closed counts held types before)
 
 abbrev pub ArraysAfter : (Dock → Dock) → List ℕ → List ℕ → List ℕ → List ℕ → Rest → List ℕ → List ℕ → List ℕ → List ℕ → Rest → Type 0
-ArraysAfter f closed counts held types r newClosed newCounts newHeld newTypes e =
-    (map : List ℕ) → dockWith map newClosed newCounts newHeld newTypes e ≡ f (dockWith map closed counts held types r)
+ArraysAfter f closed counts held types before newClosed newCounts newHeld newTypes after =
+    (map : List ℕ) → dockWith map newClosed newCounts newHeld newTypes after ≡ f (dockWith map closed counts held types before)

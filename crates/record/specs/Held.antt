@@ -16,7 +16,7 @@ isHeld k key = not (eqb (getD (k .held) key 0) 0)
 abbrev pub flagOf : ℕ → ℕ
 flagOf flag = pick (eqb flag 0) 0 1
 
--- The modifier keys among the held ones, as the encoder takes them.
+-- The modifier keys among the held ones, as the encoder takes them: SHIFT 42 and 53, CTRL 54 and 58, ALT 55 and 57, left and right.
 unfoldable pub modifiersOf : List ℕ → ℕ
 modifiersOf held =
     flagOf (getD held 42 0) + 2 * flagOf (getD held 53 0) + 4 * flagOf (getD held 54 0)

@@ -25,7 +25,7 @@ dock map contacts keys types mode replies scanning waiting handover given =
       given = given;
     }
 
--- The record with another map, with other contacts, and so on: each of its parts replaced by itself.
+-- The record with another map, with other contacts, and so on: one part replaced at a time.
 abbrev pub withMap : Dock → List ℕ → Dock
 withMap d map = dock map (d .contacts) (d .keys) (d .types) (d .mode) (d .replies) (d .scanning) (d .waiting) (d .handover) (d .given)
 

@@ -16,7 +16,7 @@ use Rattle.dock.specs.Answers.{isAccepted}
 use Rattle.dock.specs.Scan.{listening, changed, quiet, scanOf}
 use Rattle.dock.specs.Swap.{remapped, swapOf}
 use Rattle.dock.specs.Frame.{frameOf}
-use Rattle.dock.specs.Read.{behindIt, readOf}
+use Rattle.dock.specs.Read.{withoutOldest, readOf}
 use Rattle.frames.specs.declared.Unpacked.{Unpacked}
 use Rattle.frames.specs.declared.Unpacked.the-variants.{Byte, Broken, TooLarge}
 use Rattle.frames.specs.Frames.{unpackedOf}
@@ -70,7 +70,7 @@ frameBytes TooLarge d = []
 abbrev pub readBytes : Given → Dock → List ℕ
 readBytes Nothing d = closingBytes d
 readBytes (Reply byte) d = closingBytes d
-readBytes (KeyByte byte) d = closingBytes (withKeys d (withQueue (d .keys) (behindIt (d .keys .queue))))
+readBytes (KeyByte byte) d = closingBytes (withKeys d (withQueue (d .keys) (withoutOldest (d .keys .queue))))
 readBytes Refused d = []
 
 -- What a call puts into the queue; a call that is not accepted puts nothing.

@@ -18,8 +18,8 @@ use Rattle.runs.specs.Runs.{mayBegin, beginning, undisturbed}
 -- find down, and which do the scans say are held. And the key bytes that were given.
 pub record Outcome : Type 0 where
   pub begins : Bool
-  pub quietly : Bool
-  pub empty : Bool
+  pub undisturbed : Bool
+  pub quiet : Bool
   pub down : List ℕ
   pub said : List ℕ
   pub bytes : List ℕ
@@ -43,8 +43,8 @@ outcome earlier calls =
     let end = afterCalls start calls in
     record {
       begins = mayBegin (start .dock);
-      quietly = undisturbed start calls;
-      empty = quiet (end .dock);
+      undisturbed = undisturbed start calls;
+      quiet = quiet (end .dock);
       down = flagged 0 (end .terminal .down);
       said = saidFrom 0 (end .dock .map) (end .scans);
       bytes = givenIn start calls;
@@ -52,11 +52,11 @@ outcome earlier calls =
 
 -- All as demand 3 has it: these bytes were given, and these keys are down.
 abbrev pub agreeing : List ℕ → List ℕ → Outcome
-agreeing bytes keys = record { begins = true; quietly = true; empty = true; down = keys; said = keys; bytes = bytes }
+agreeing bytes keys = record { begins = true; undisturbed = true; quiet = true; down = keys; said = keys; bytes = bytes }
 
 -- The same but for PAUSE, which is held and is never down.
 abbrev pub pauseApart : List ℕ → Outcome
-pauseApart bytes = record { begins = true; quietly = true; empty = true; down = []; said = 101 ∷ []; bytes = bytes }
+pauseApart bytes = record { begins = true; undisturbed = true; quiet = true; down = []; said = 101 ∷ []; bytes = bytes }
 
 -- Calls up to a start, calls after it, and what they come to.
 pub record Story : Type 0 where

@@ -1,6 +1,6 @@
 -- A dock, the scans that it counted, and a terminal that reads its key bytes (docs/RULES.md, section 13). Each call is the very one
 -- that the dock's functions promise. Assumes nothing.
--- Edits of must-fail/ put what they import in the place of these two lines: change them there, too.
+-- Edits of must-fail/ put what they import in the place of the two lines above: change them there, too.
 use Prim.Native.Nat.{ℕ}
 use mathlib.Core.Bool.{Bool}
 use mathlib.Core.List.{List, [], _∷_, _++_}

@@ -21,6 +21,7 @@ numLock indicators = eqb (indicators / 2 % 2) 1
 abbrev pub sendsWith : List ℕ → Mode → ℕ → ℕ → Action → List ℕ
 sendsWith held m type key action = encode (m .set) key action type (modifiersOf held) (numLock (m .indicators))
 
+-- The same, by the keys of the record.
 unfoldable pub sends : Keys → Mode → ℕ → ℕ → Action → List ℕ
 sends k m type key action = sendsWith (k .held) m type key action
 

@@ -19,7 +19,8 @@ ghost use Rattle.range.specs.Range.{inRange};
 ghost use Rattle.dock.specs.Answers.{answeredWith};
 ghost use Rattle.dock.specs.Swap.{remapped, swapOf};
 
-// The first swap drops contact history and the repeating key, and a handover opens. While one is open nothing but the map is replaced.
+// What a swap does beside replacing the map: the first drops contact history and the repeating key, and a handover opens. While one is
+// open a swap does nothing else.
 fn open_handover(closed: &mut Columns, counts: &mut Counts, rest: Rest) -> Rest
     ensures { λ r. ⌜ ((map held types new : List ℕ)
         → dockWith new (now (closed .exit)) (now (counts .exit)) held types r

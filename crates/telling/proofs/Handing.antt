@@ -25,7 +25,7 @@ use Rattle.keying.proofs.Kept.{handed-keeps}
 use Rattle.record.specs.declared.Mode.{Mode}
 use Rattle.record.specs.declared.Keys.{Keys}
 use Rattle.record.specs.Held.{isHeld, flagOf, heldTo}
-use Rattle.telling.specs.Agreeing.{Outside}
+use Rattle.telling.specs.Agreeing.{NoneOutside}
 use Rattle.basics.proofs.Cases.{by-cases, never, neither-first, neither-second}
 
 -- A flag that is taken down is down, also where there is no place for one,
@@ -87,7 +87,7 @@ module _ (m : Mode) (types : List ℕ) where
   handed-down : (n key : ℕ) (k : Keys) (j : ℕ) → getD (k .held) j 0 ≡ 0 → getD (handedFrom n key k m types .keys .held) j 0 ≡ 0
   handed-down n key k j down = ⊎-elim (λ e. e) (λ e. e ∙ down) (handed-any n key k j)
 
-  pub handed-outside : (n key : ℕ) (k : Keys) → Outside (k .held) → Outside (handedFrom n key k m types .keys .held)
+  pub handed-outside : (n key : ℕ) (k : Keys) → NoneOutside (k .held) → NoneOutside (handedFrom n key k m types .keys .held)
   handed-outside n key k out j h = handed-down n key k j (out j h)
 
   -- A key that the handover has passed is not held.
@@ -130,7 +130,7 @@ module _ (m : Mode) (types : List ℕ) where
       go (yes e) later = passed-gone n key k j e
       go (no e) later = later (omega arith) (omega arith)
 
-  pub handed-all : (k : Keys) → Outside (k .held) → handedFrom lastKey 1 k m types .unfinished ≡ false
+  pub handed-all : (k : Keys) → NoneOutside (k .held) → handedFrom lastKey 1 k m types .unfinished ≡ false
       → (j : ℕ) → getD (handedFrom lastKey 1 k m types .keys .held) j 0 ≡ 0
   handed-all k out done zero = handed-down lastKey 1 k 0 (out 0 (inl refl))
   handed-all k out done (suc j) = go (leb (suc j) lastKey) refl

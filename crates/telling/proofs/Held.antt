@@ -20,7 +20,7 @@ use Rattle.keying.specs.Moves.{pressed, releasedWith, released, moved, turned, 
 use Rattle.keying.proofs.Kept.{turns-keep}
 use Rattle.record.specs.declared.Mode.{Mode}
 use Rattle.record.specs.declared.Keys.{Keys}
-use Rattle.telling.specs.Agreeing.{Agrees, Once}
+use Rattle.telling.specs.Agreeing.{Agrees, EachOnce}
 use Rattle.basics.proofs.Cases.{by-cases}
 use Rattle.basics.proofs.Zeros.{zeros-at}
 
@@ -82,7 +82,7 @@ module _ (m : Mode) where
       turns-flags flags limit n =
           turns-keep Flags m released-flags (λ k type key h p. pressed-flags k type key p) types map limit n was is k flags
 
-      module _ (flags : length (k .held) ≡ 144) (limit : allUpTo lastKey map ≡ true) (once : Once map) where
+      module _ (flags : length (k .held) ≡ 144) (limit : allUpTo lastKey map ≡ true) (once : EachOnce map) where
         -- A key whose contact is below the position shows what the contact is.
         turns-own : (p : ℕ) → (getD map p 0 ≡ 0 → ⊥) → getD (k .held) (getD map p 0) 0 ≡ contact was p
             → (n : ℕ) → p < n → n ≤ 144 → getD (turnsTo n m types map was is k .held) (getD map p 0) 0 ≡ contact is p

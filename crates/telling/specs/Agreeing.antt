@@ -16,13 +16,13 @@ pub record Agrees (map closed held : List ℕ) : Type 0 where
       → ((position : ℕ) → position < 144 → (getD map position 0 ≡ 0 → ⊥) → getD map position 0 ≡ key → ⊥) → getD held key 0 ≡ 0
 
 -- No key stands at two positions of a map.
-abbrev pub Once : List ℕ → Type 0
-Once map = (p q : ℕ) → p < 144 → q < 144 → getD map p 0 ≡ getD map q 0 → (getD map p 0 ≡ 0 → ⊥) → p ≡ q
+abbrev pub EachOnce : List ℕ → Type 0
+EachOnce map = (p q : ℕ) → p < 144 → q < 144 → getD map p 0 ≡ getD map q 0 → (getD map p 0 ≡ 0 → ⊥) → p ≡ q
 
 -- No flag is up where there is no key.
-abbrev pub Outside : List ℕ → Type 0
-Outside held = (key : ℕ) → (key ≡ 0) ⊎ (lastKey < key) → getD held key 0 ≡ 0
+abbrev pub NoneOutside : List ℕ → Type 0
+NoneOutside held = (key : ℕ) → (key ≡ 0) ⊎ (lastKey < key) → getD held key 0 ≡ 0
 
 -- The key that repeats, if one does, is held.
-abbrev pub Repeats : Keys → Type 0
-Repeats k = (k .repeating ≡ 0) ⊎ (getD (k .held) (k .repeating) 0 ≡ 1)
+abbrev pub RepeatsHeld : Keys → Type 0
+RepeatsHeld k = (k .repeating ≡ 0) ⊎ (getD (k .held) (k .repeating) 0 ≡ 1)

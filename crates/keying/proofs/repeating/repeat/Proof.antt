@@ -53,9 +53,9 @@ returns-4 c =
 bytes-of-requires : tie.Need-bytes-of-requires
 bytes-of-requires c κs = search needs
 
-holding-requires : tie.Need-holding-requires
+alone-requires : tie.Need-alone-requires
 unfolding sends
-holding-requires c κs =
+alone-requires c κs =
     let a = c .before .before .before .before .before .before .before .before .before .args in
     sequence-short (keysWith (a .held .now) (a .outgoing)) (a .mode) _ _ Repeat _ (c .bytes-of .ensures)
 
@@ -68,7 +68,7 @@ returns-5 c =
     let a = d .before .before .before .args in
     repeats-sent (keysWith (a .held .now) (a .outgoing)) _ _ _ (d .before .before .if1 .left) (d .if2 .left) _ (r .before .may-repeat .ensures)
     (not-false _ (r .if3 .left)) _ (q .before .interval-of .ensures) (not-false _ (q .if4 .left)) _ _ (c .before .bytes-of .ensures)
-    (c .holding .ensures)
+    (c .alone .ensures)
 
 pub repeat-spec : {M : Type 1} → statement M
 repeat-spec =
@@ -83,5 +83,5 @@ repeat-spec =
     interval-of-requires
     returns-4
     bytes-of-requires
-    holding-requires
+    alone-requires
     returns-5)

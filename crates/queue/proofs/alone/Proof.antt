@@ -1,4 +1,4 @@
--- `queue::holding` meets its contract: a sequence pushed onto an empty queue waits alone. Assumes nothing.
+-- `queue::alone` meets its contract: a sequence pushed onto an empty queue waits alone. Assumes nothing.
 use mathlib.Core.Path.{_≡_, _∙_, ap}
 use mathlib.Core.List.{[]}
 use native.Mathlib.Omega.{arith}
@@ -7,8 +7,8 @@ use lib.ListN.{length}
 use Rattle.queue.specs.Queues.{tidy}
 use Rattle.queue.proofs.Meaning.{tidy-queueOf}
 use Rattle.queue.proofs.Pushing.{pushed-alone}
-use Rattle.queue.proofs.holding.Statement.{statement}
-use Rattle.queue.proofs.holding.Tie as tie
+use Rattle.queue.proofs.alone.Statement.{statement}
+use Rattle.queue.proofs.alone.Tie as tie
 
 empty-requires : tie.Need-empty-requires
 empty-requires c κs = search needs
@@ -22,5 +22,5 @@ returns c =
     let places : length (s .bytes) ≡ 8 = search needs in
     c .pushed .ensures ∙ pushed-alone _ s 0 (c .before .empty .ensures) (c .before .before .pre) places
 
-pub holding-spec : {M : Type 1} → statement M
-holding-spec = tie.close (tie.spec empty-requires pushed-requires returns)
+pub alone-spec : {M : Type 1} → statement M
+alone-spec = tie.close (tie.spec empty-requires pushed-requires returns)
