@@ -4,22 +4,15 @@ use mathlib.Core.Path.{_≡_, refl, ap, _∙_}
 use mathlib.Core.Bool.{Bool, true, not}
 use mathlib.Core.List.{List, [], _∷_, _++_}
 use Prim.Native.Nat.{ℕ, zero, suc, _≤_}
-use lib.Dec.{eqb}
 use lib.ListN.{replicate}
 use Rattle.basics.specs.Choice.{both, either}
-use Rattle.basics.proofs.Cases.{picked}
 use Rattle.keys.specs.Keys.{lastKey}
-use Rattle.dock.specs.declared.Taken.{Taken}
-use Rattle.dock.specs.Closing.{closing}
 use Rattle.dock.specs.Scan.{quiet}
-use Rattle.dock.specs.Read.{remembering, replyTaken, keyByteTaken, read, readOf}
-use Rattle.history.specs.Scans.{saysHeld}
-use Rattle.record.specs.declared.Dock.{Dock}
-use Rattle.range.specs.Range.{inRange}
 use Rattle.runs.specs.Calls.{Call, Read, isClearingCall}
 use Rattle.runs.specs.Worlds.{World, woken, next, afterCalls, scansSay}
 use Rattle.runs.specs.Runs.{mayBegin, beginning, overrunsIn, undisturbed}
 use Rattle.terminal.specs.Terminals.{isDown}
+use Rattle.agreement.proofs.AnyCalls.{begun-sound}
 use Rattle.agreement.proofs.Bounds.{Steady, any-steady, reached-steady}
 use Rattle.agreement.proofs.Ending.{enough-reads}
 use Rattle.agreement.proofs.ThirdDemand.{third-demand}
@@ -43,25 +36,11 @@ calm-with-reads [] n w = reads-calm n w
 calm-with-reads (call ∷ calls) n w =
     ap (λ (b : Bool). both (not (either (isClearingCall call) (overrunsIn (w .dock) call))) b) (calm-with-reads calls n (next w call))
 
--- A read changes neither the map nor the scans, so they say after reads what they said before.
-read-map : (d : Dock) → readOf d .dock .map ≡ d .map
-unfolding readOf read replyTaken keyByteTaken remembering closing
-read-map d =
-    let Same : Taken → Type 0 = λ (t : Taken). t .dock .map ≡ d .map in
-    let Kept : Dock → Type 0 = λ (e : Dock). e .map ≡ d .map in
-    picked Same (inRange d) _ _
-    (picked Same (eqb (d .replies .length) 0) _ (replyTaken d)
-    (picked Same (eqb (d .keys .queue .length) 0) _ (keyByteTaken d)
-    (picked Kept (d .handover) _ d refl refl)
-    (picked Kept (d .handover) _ _ refl refl))
-    (picked Kept (d .handover) _ _ refl refl))
-    refl
-
+-- A read tells the onlooker nothing, so the scans say after reads what they said before.
 pub reads-say-the-same : (n : ℕ) (w : World) (key : ℕ) → scansSay (afterCalls w (replicate n Read)) key ≡ scansSay w key
 unfolding afterCalls next
 reads-say-the-same zero w key = refl
-reads-say-the-same (suc n) w key =
-    reads-say-the-same n (next w Read) key ∙ ap (λ (map : List ℕ). saysHeld map (w .scans) key) (read-map (w .dock))
+reads-say-the-same (suc n) w key = reads-say-the-same n (next w Read) key
 
 module _ (earlier calls : List Call) (begins : mayBegin (afterCalls woken earlier .dock) ≡ true)
     (calm : undisturbed (beginning (afterCalls woken earlier)) calls ≡ true) (n : ℕ) (enough : 851 ≤ n) where
@@ -70,7 +49,7 @@ module _ (earlier calls : List Call) (begins : mayBegin (afterCalls woken earlie
 
   steady : Steady start
   unfolding start
-  steady = let s = reached-steady earlier in record { sound = record { range = s .sound .range; settled = s .sound .settled }; roomy = s .roomy }
+  steady = let s = reached-steady earlier in record { sound = begun-sound (afterCalls woken earlier) (s .sound); roomy = s .roomy }
 
   nothing : quiet (afterCalls start (calls ++ replicate n Read) .dock) ≡ true
   nothing = rw (after-both calls (replicate n Read) start) (enough-reads (afterCalls start calls) (any-steady calls start steady) n enough)

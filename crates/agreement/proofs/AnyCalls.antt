@@ -1,23 +1,31 @@
 -- Any calls, one after the other: what is true of the dock stays true, and a terminal that nothing disturbs goes on following. Assumes
 -- nothing.
-use mathlib.Core.Path.{_≡_, refl}
+use mathlib.Core.Path.{_≡_, refl, ap, _∙_}
 use mathlib.Core.Logic.{inl}
-use mathlib.Core.Bool.{true, false, not}
+use mathlib.Core.Bool.{Bool, true, false, not}
 use mathlib.Core.List.{List, [], _∷_}
 use borrow.Author.Tests.{not-true}
-use Rattle.basics.specs.Choice.{either}
+use Prim.Native.Nat.{ℕ}
+use lib.Dec.{eqb}
+use lib.ListN.{length}
+use Rattle.basics.specs.Choice.{pick, both, either}
 use Rattle.basics.specs.Lists.{allUpTo}
 use Rattle.basics.proofs.Flags.{left-of-both, right-of-both}
 use Rattle.dock.proofs.InRange.{scan-in-range, read-in-range, swap-in-range, frame-in-range}
+use Rattle.dock.specs.Scan.{listening, isCounted}
+use Rattle.dock.specs.Swap.{swapOf}
 use Rattle.history.specs.Scans.{countedAll}
 use Rattle.maps.specs.Maps.{isIn, hasDouble}
 use Rattle.queue.specs.Queues.{queueOf}
+use Rattle.record.specs.declared.Dock.{Dock}
+use Rattle.record.specs.declared.Mode.{Mode}
 use Rattle.record.specs.Power.{countUp, plainMap, freshWith, powerOn}
 use Rattle.range.specs.Range.{inRange}
 use Rattle.range.proofs.PowerOn.{power-on-in-range}
 use Rattle.runs.specs.Calls.{Call, Scan, Swap, Frame, Read, isClearingCall}
+use Rattle.runs.specs.Onlookers.{Onlooker, onlooker, atPowerOn, isCountedBy, sawScan, isMap, sawSwap}
 use Rattle.runs.specs.Worlds.{World, woken, next, afterCalls}
-use Rattle.runs.specs.Runs.{overrunsIn, undisturbed}
+use Rattle.runs.specs.Runs.{beginning, overrunsIn, undisturbed}
 use Rattle.basics.proofs.Cases.{neither-first, never}
 use Rattle.telling.proofs.Held.{none-agree, contact-open}
 use Rattle.basics.proofs.Zeros.{zeros-at}
@@ -27,15 +35,17 @@ use Rattle.agreement.proofs.Scanned.{scan-settled, scan-follows}
 use Rattle.agreement.proofs.Swapped.{swap-settled, swap-follows}
 use Rattle.agreement.proofs.Framed.{frame-settled, frame-follows}
 use Rattle.agreement.proofs.Taken.{read-settled, read-follows}
+use Rattle.agreement.proofs.Knowing.{Knows, scan-knows, swap-knows, frame-knows, read-knows, scan-stays, swap-stays, read-stays, frame-set}
 
--- The dock is in its range and settled.
+-- The dock is in its range and settled, and the onlooker knows what is so.
 pub record Sound (w : World) : Type 0 where
   pub range : inRange (w .dock) ≡ true
-  pub settled : Settled (w .dock) (w .scans)
+  pub settled : Settled (w .dock) (w .onlooker .scans)
+  pub knows : Knows (w .dock) (w .onlooker)
 
 -- At power-on.
 pub woken-sound : Sound woken
-unfolding woken powerOn freshWith plainMap countUp allUpTo isIn hasDouble queueOf countedAll
+unfolding woken atPowerOn powerOn freshWith plainMap countUp allUpTo isIn hasDouble queueOf countedAll
 woken-sound =
     record {
       range = power-on-in-range;
@@ -50,28 +60,81 @@ woken-sound =
         agree = λ shut. none-agree plainMap _ _ (zeros-at 144) (λ position h. contact-open 18 position);
         anew = λ begun. never false begun refl;
       });
+      knows = (refl, refl, refl);
     }
+
+-- Where a terminal begins.
+pub begun-sound : (w : World) → Sound w → Sound (beginning w)
+begun-sound w s = record { range = s .range; settled = s .settled; knows = s .knows }
+
+-- The dock counts the scans that the onlooker counts.
+same-count : (d : Dock) (o : Onlooker) → Knows d o → (scan : List ℕ)
+    → both (eqb (length scan) 18) (isCounted d scan) ≡ isCountedBy o (d .handover) scan
+unfolding isCounted listening isCountedBy
+same-count d o k scan = rw (k .1, k .2)
 
 -- One call.
 next-sound : (w : World) (call : Call) → Sound w → Sound (next w call)
-unfolding next
+unfolding next sawScan sawSwap
 next-sound w (Scan scan) s =
-    record { range = scan-in-range (w .dock) scan (s .range); settled = scan-settled (w .dock) (w .scans) scan (s .range) (s .settled) }
+    record {
+      range = scan-in-range (w .dock) scan (s .range);
+      settled = rw (← same-count (w .dock) (w .onlooker) (s .knows) scan)
+          (scan-settled (w .dock) (w .onlooker .scans) scan (s .range) (s .settled));
+      knows = scan-knows (w .dock) (w .onlooker) (s .knows) (s .range) scan;
+    }
 next-sound w (Swap map) s =
-    record { range = swap-in-range (w .dock) map (s .range); settled = swap-settled (w .dock) (w .scans) (s .settled) map (s .range) }
+    record {
+      range = swap-in-range (w .dock) map (s .range);
+      settled = go (isMap map) (swap-settled (w .dock) (w .onlooker .scans) (s .settled) map (s .range));
+      knows = swap-knows (w .dock) (w .onlooker) (s .knows) (s .range) map;
+    }
+  where
+    go : (b : Bool) → Settled (swapOf (w .dock) map .dock) (pick b [] (w .onlooker .scans))
+        → Settled (swapOf (w .dock) map .dock) ((pick b (onlooker map (w .onlooker .scanning) (w .onlooker .waiting) []) (w .onlooker)) .scans)
+    go true t = t
+    go false t = t
 next-sound w (Frame number) s =
-    record { range = frame-in-range (w .dock) number (s .range); settled = frame-settled (w .dock) (w .scans) number (s .range) (s .settled) }
+    record {
+      range = frame-in-range (w .dock) number (s .range);
+      settled = frame-settled (w .dock) (w .onlooker) number (s .range) (s .settled);
+      knows = frame-knows (w .dock) (w .onlooker) (s .knows) (s .range) number;
+    }
 next-sound w Read s =
-    record { range = read-in-range (w .dock) (s .range); settled = read-settled (w .dock) (w .scans) (s .range) (s .settled) }
+    record {
+      range = read-in-range (w .dock) (s .range);
+      settled = read-settled (w .dock) (w .onlooker .scans) (s .range) (s .settled);
+      knows = read-knows (w .dock) (w .onlooker) (s .knows) (s .range);
+    }
 
-next-follows : (w : World) (call : Call) → Sound w → either (isClearingCall call) (overrunsIn (w .dock) call) ≡ false
-    → Follows (w .dock) (w .terminal) → Follows (next w call .dock) (next w call .terminal)
+-- The terminal follows, and reads by the set that the dock sends in.
+pub record Reads (w : World) : Type 0 where
+  pub follows : Follows (w .dock) (w .terminal)
+  pub same : w .dock .mode .set ≡ w .set
+
+next-reads : (w : World) (call : Call) → Sound w → either (isClearingCall call) (overrunsIn (w .dock) call) ≡ false → Reads w → Reads (next w call)
 unfolding next
-next-follows w (Scan scan) s calm f = scan-follows (w .terminal) (w .dock) (w .scans) scan (s .settled) f (s .range) calm
-next-follows w (Swap map) s calm f = swap-follows (w .dock) (w .terminal) map f (s .range)
-next-follows w (Frame number) s calm f =
-    frame-follows (w .dock) (w .terminal) number (s .range) (neither-first (isClearingCall (Frame number)) false calm) f
-next-follows w Read s calm f = read-follows (w .dock) (w .scans) (w .terminal) (s .range) (s .settled) f
+next-reads w (Scan scan) s calm f =
+    record {
+      follows = scan-follows (w .terminal) (w .dock) (w .onlooker .scans) scan (s .settled) (f .follows) (s .range) calm;
+      same = ap (λ (m : Mode). m .set) (scan-stays (w .dock) scan .3) ∙ f .same;
+    }
+next-reads w (Swap map) s calm f =
+    record {
+      follows = swap-follows (w .dock) (w .terminal) map (f .follows) (s .range);
+      same = ap (λ (m : Mode). m .set) (swap-stays (w .dock) map (s .range) .3) ∙ f .same;
+    }
+next-reads w (Frame number) s calm f =
+    let mild = neither-first (isClearingCall (Frame number)) false calm in
+    record {
+      follows = frame-follows (w .dock) (w .terminal) number (s .range) mild (f .follows);
+      same = frame-set (w .dock) number (s .range) mild (f .follows .firm) ∙ f .same;
+    }
+next-reads w Read s calm f =
+    record {
+      follows = rw (← f .same) (read-follows (w .dock) (w .onlooker .scans) (w .terminal) (s .range) (s .settled) (f .follows));
+      same = ap (λ (m : Mode). m .set) (read-stays (w .dock) .3) ∙ f .same;
+    }
 
 -- Any calls.
 pub any-sound : (calls : List Call) (w : World) → Sound w → Sound (afterCalls w calls)
@@ -79,12 +142,11 @@ unfolding afterCalls
 any-sound [] w s = s
 any-sound (call ∷ calls) w s = any-sound calls (next w call) (next-sound w call s)
 
-pub any-follows : (calls : List Call) (w : World) → Sound w → undisturbed w calls ≡ true → Follows (w .dock) (w .terminal)
-    → Follows (afterCalls w calls .dock) (afterCalls w calls .terminal)
+pub any-reads : (calls : List Call) (w : World) → Sound w → undisturbed w calls ≡ true → Reads w → Reads (afterCalls w calls)
 unfolding afterCalls undisturbed
-any-follows [] w s calm f = f
-any-follows (call ∷ calls) w s calm f =
+any-reads [] w s calm f = f
+any-reads (call ∷ calls) w s calm f =
     let disturbs = either (isClearingCall call) (overrunsIn (w .dock) call) in
     let later = undisturbed (next w call) calls in
-    any-follows calls (next w call) (next-sound w call s) (right-of-both (not disturbs) later calm)
-    (next-follows w call s (not-true disturbs (left-of-both (not disturbs) later calm)) f)
+    any-reads calls (next w call) (next-sound w call s) (right-of-both (not disturbs) later calm)
+    (next-reads w call s (not-true disturbs (left-of-both (not disturbs) later calm)) f)

@@ -94,7 +94,7 @@ module _ (w : World) (s : Steady w) where
   read-of-quiet e =
       let none = left-of-both (eqb (d .replies .length) 0) (eqb (d .keys .queue .length) 0) e in
       let empty = right-of-both (eqb (d .replies .length) 0) (eqb (d .keys .queue .length) 0) e in
-      rw (s .sound .range, none, empty, quiet-shut d (w .scans) (s .sound .settled) e)
+      rw (s .sound .range, none, empty, quiet-shut d (w .onlooker .scans) (s .sound .settled) e)
 
 stays-quiet : (n : ℕ) (w : World) → Steady w → quiet (w .dock) ≡ true → quiet (afterCalls w (replicate n Read) .dock) ≡ true
 unfolding afterCalls
@@ -129,4 +129,4 @@ pub handover-ends : (calls : List Call) (n : ℕ) → 851 ≤ n → afterCalls (
 handover-ends calls n enough =
     let end = afterCalls (afterCalls woken calls) (replicate n Read) in
     let sound = any-sound (replicate n Read) (afterCalls woken calls) (reached-steady calls .sound) in
-    quiet-shut (end .dock) (end .scans) (sound .settled) (reads-quieten calls n enough)
+    quiet-shut (end .dock) (end .onlooker .scans) (sound .settled) (reads-quieten calls n enough)

@@ -10,7 +10,6 @@ use borrow.Author.Tests.{eqb-true, eqb-false, leb-true, leb-false}
 use lib.Dec.{eqb, leb}
 use Rattle.basics.specs.Choice.{pick, both, either, between}
 use Rattle.basics.proofs.Flags.{left-of-both, right-of-both}
-use Rattle.dock.specs.Answers.{isAccepted}
 use Rattle.dock.specs.Frame.{tookFrame, frameOf}
 use Rattle.frames.specs.declared.Unpacked.{Unpacked}
 use Rattle.frames.specs.declared.Unpacked.the-variants.{Byte, Broken, TooLarge}
@@ -25,7 +24,7 @@ use Rattle.record.specs.Parts.{withWaiting}
 use Rattle.record.specs.Power.{freshWith}
 use Rattle.range.specs.Range.{takesValue, inRange}
 use Rattle.runs.specs.Calls.{clears, carries, isClearing}
-use Rattle.runs.specs.Worlds.{isReset, scansAfterFrame}
+use Rattle.runs.specs.Onlookers.{Onlooker, sawByte, sawFrame}
 use Rattle.telling.proofs.Held.{none-agree, contact-open}
 use Rattle.basics.proofs.Zeros.{zeros-at}
 use Rattle.basics.proofs.Cases.{by-cases, picked, neither-first, neither-second, never}
@@ -97,15 +96,14 @@ module _ (d : Dock) (scans : List (List ℕ)) (r : IsReady d scans) (byte : ℕ)
           (picked Fine (leb 0xed byte) (commanded byte d) (tookValue byte d) (obeyed-ready e) value-ready)
 
 -- The call, refused or not.
-pub frame-settled : (d : Dock) (scans : List (List ℕ)) (number : ℕ) → inRange d ≡ true → Settled d scans
-    → Settled (frameOf d number .dock) (scansAfterFrame d scans number)
-unfolding frameOf scansAfterFrame isReset tookFrame
-frame-settled d scans number range s = rw range (go (unpackedOf number))
+pub frame-settled : (d : Dock) (o : Onlooker) (number : ℕ) → inRange d ≡ true → Settled d (o .scans)
+    → Settled (frameOf d number .dock) (sawFrame (unpackedOf number) o .scans)
+unfolding frameOf tookFrame sawByte
+frame-settled d o number range s = rw range (go (unpackedOf number))
   where
-    go : (u : Unpacked)
-        → Settled (tookFrame u d .dock) (pick (both (isAccepted (tookFrame u d .answer)) (carries (λ byte. eqb byte 0xff) u)) [] scans)
-    go (Byte byte) = closing-settled (tookByte byte d) (pick (eqb byte 0xff) [] scans) (took-ready d scans (s .ready) byte)
-    go Broken = closing-settled (replying (0xfe ∷ []) d) scans (s .ready)
+    go : (u : Unpacked) → Settled (tookFrame u d .dock) (sawFrame u o .scans)
+    go (Byte byte) = closing-settled (tookByte byte d) (pick (eqb byte 0xff) [] (o .scans)) (took-ready d (o .scans) (s .ready) byte)
+    go Broken = closing-settled (replying (0xfe ∷ []) d) (o .scans) (s .ready)
     go TooLarge = s
 
 -- A byte that does not clear the queue, in numbers.

@@ -18,7 +18,6 @@ use Rattle.dock.specs.Frame.{tookFrame, frameOf}
 use Rattle.dock.specs.Read.{readOf}
 use Rattle.dock.proofs.Refusals.{read-accepted}
 use Rattle.frames.specs.declared.Unpacked.{Unpacked}
-use Rattle.frames.specs.declared.Unpacked.the-variants.{Byte, Broken, TooLarge}
 use Rattle.frames.specs.Frames.{whole, unpackedOf}
 use Rattle.maps.specs.Maps.{hasDouble}
 use Rattle.record.specs.declared.Dock.{Dock}

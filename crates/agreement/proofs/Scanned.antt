@@ -12,7 +12,7 @@ use Rattle.basics.proofs.Cases.{never}
 use Rattle.contacts.specs.declared.Contacts.{Contacts}
 use Rattle.phantom.specs.Phantom.{isPhantom}
 use Rattle.contacts.specs.Counts.{unseen, countedOf}
-use Rattle.dock.specs.Answers.{isAccepted, answered}
+use Rattle.dock.specs.Answers.{answered}
 use Rattle.dock.specs.declared.Answer.the-variants.{Accepted, ScanLength}
 use Rattle.dock.specs.Closing.{closing}
 use Rattle.dock.specs.Scan.{listening, isCounted, counting, changed, quiet, repeating, heardScan, scanned, scanOf}
@@ -25,7 +25,6 @@ use Rattle.record.specs.declared.Dock.{Dock}
 use Rattle.record.specs.Parts.{withKeys}
 use Rattle.range.specs.Range.{inRange}
 use Rattle.runs.specs.Runs.{changesOverrun, overruns}
-use Rattle.runs.specs.Worlds.{scansAfterScan}
 use Rattle.telling.proofs.Held.{turns-agree}
 use Rattle.telling.proofs.Repeating.{turns-repeat, turns-outside, repeated-repeats, repeated-held}
 use Rattle.telling.proofs.Told.{ticked-told, turns-told, repeated-told}
@@ -110,14 +109,13 @@ scanned-settled d scans scan s = go (listening d) refl
 
 -- The call, refused or not.
 pub scan-settled : (d : Dock) (scans : List (List ℕ)) (scan : List ℕ) → inRange d ≡ true → Settled d scans
-    → Settled (scanOf d scan .dock) (scansAfterScan d scans scan)
-unfolding scanOf scansAfterScan
+    → Settled (scanOf d scan .dock) (pick (both (eqb (length scan) 18) (isCounted d scan)) (scans ++ (scan ∷ [])) scans)
+unfolding scanOf
 scan-settled d scans scan range s = rw range (go (eqb (length scan) 18))
   where
     go : (whole : Bool)
         → Settled ((pick whole (answered Accepted (scanned d scan)) (answered ScanLength d)) .dock)
-        (pick (both (isAccepted ((pick whole (answered Accepted (scanned d scan)) (answered ScanLength d)) .answer)) (isCounted d scan))
-        (scans ++ (scan ∷ [])) scans)
+        (pick (both whole (isCounted d scan)) (scans ++ (scan ∷ [])) scans)
     go true = scanned-settled d scans scan s
     go false = s
 

@@ -1,26 +1,26 @@
 -- A swap leaves a settled dock settled, with no scan counted since, and the terminal goes on following. Assumes nothing.
 use mathlib.Core.Path.{_≡_, refl, ap, _∙_}
 use mathlib.Core.Logic.{inl}
-use mathlib.Core.Bool.{Bool, true, false}
+use mathlib.Core.Bool.{Bool, true, false, not}
 use mathlib.Core.List.{List, []}
 use Prim.Native.Nat.{ℕ}
 use borrow.Author.Tests.{eqb-true}
 use lib.Dec.{eqb}
 use lib.ListN.{length}
-use Rattle.basics.specs.Choice.{pick}
+use Rattle.basics.specs.Choice.{pick, both}
 use Rattle.basics.specs.Lists.{allUpTo}
 use Rattle.keys.specs.Keys.{lastKey}
 use Rattle.contacts.specs.Counts.{unseen}
 use Rattle.dock.specs.declared.Answered.{Answered}
 use Rattle.dock.specs.declared.Answer.the-variants.{Accepted, MapLength, MapEntry, MapDouble}
-use Rattle.dock.specs.Answers.{isAccepted, answered}
+use Rattle.dock.specs.Answers.{answered}
 use Rattle.dock.specs.Swap.{opened, remapped, swapped, swapOf}
 use Rattle.history.specs.Scans.{countedAll}
 use Rattle.maps.specs.Maps.{hasDouble}
 use Rattle.record.specs.declared.Dock.{Dock}
 use Rattle.record.specs.Parts.{withMap}
 use Rattle.range.specs.Range.{inRange}
-use Rattle.runs.specs.Worlds.{scansAfterSwap}
+use Rattle.runs.specs.Onlookers.{isMap}
 use Rattle.basics.proofs.Cases.{by-cases, picked, never}
 use Rattle.terminal.specs.Terminals.{Terminal}
 use Rattle.agreement.proofs.Following.{Follows, closing-follows}
@@ -58,29 +58,18 @@ module _ (d : Dock) (scans : List (List ℕ)) (s : Settled d scans) (map : List 
         })
 
   -- The call, refused or not.
-  pub swap-settled : inRange d ≡ true → Settled (swapOf d map .dock) (scansAfterSwap d scans map)
-  unfolding swapOf scansAfterSwap swapped
-  swap-settled range = rw range (length-first (eqb (length map) 144) refl)
+  pub swap-settled : inRange d ≡ true → Settled (swapOf d map .dock) (pick (isMap map) [] scans)
+  unfolding swapOf swapped isMap
+  swap-settled range = rw range (go (eqb (length map) 144) refl (allUpTo lastKey map) refl (hasDouble map) refl)
     where
-      Fine : Answered → Type 0
-      Fine a = Settled (a .dock) (pick (isAccepted (a .answer)) [] scans)
-
-      taken : Answered
-      taken = answered Accepted (swapped d map)
-
-      doubles-last : length map ≡ 144 → allUpTo lastKey map ≡ true → (b : Bool) → hasDouble map ≡ b → Fine (pick b (answered MapDouble d) taken)
-      doubles-last l e true h = s
-      doubles-last l e false h = closing-settled (remapped d map) [] (remapped-ready l e h)
-
-      entries-next : length map ≡ 144 → (b : Bool) → allUpTo lastKey map ≡ b
-          → Fine (pick b (pick (hasDouble map) (answered MapDouble d) taken) (answered MapEntry d))
-      entries-next l true h = doubles-last l h (hasDouble map) refl
-      entries-next l false h = s
-
-      length-first : (b : Bool) → eqb (length map) 144 ≡ b
-          → Fine (pick b (pick (allUpTo lastKey map) (pick (hasDouble map) (answered MapDouble d) taken) (answered MapEntry d)) (answered MapLength d))
-      length-first true h = entries-next (eqb-true (length map) 144 h) (allUpTo lastKey map) refl
-      length-first false h = s
+      go : (long : Bool) → eqb (length map) 144 ≡ long → (entries : Bool) → allUpTo lastKey map ≡ entries → (double : Bool) → hasDouble map ≡ double
+          → Settled
+          ((pick long (pick entries (pick double (answered MapDouble d) (answered Accepted (swapped d map))) (answered MapEntry d)) (answered MapLength d)) .dock)
+          (pick (both long (both entries (not double))) [] scans)
+      go true l true e false h = closing-settled (remapped d map) [] (remapped-ready (eqb-true (length map) 144 l) e h)
+      go true l true e true h = s
+      go true l false e double h = s
+      go false l entries e double h = s
 
 -- The terminal: a swap by itself queues nothing and releases no key.
 module _ (d : Dock) (t : Terminal) (map : List ℕ) (f : Follows d t) where

@@ -35,7 +35,7 @@ use Rattle.telling.proofs.Told.{told-empty, empty-told}
 use Rattle.terminal.specs.Terminals.{Terminal, terminal, begun, isDown}
 use Rattle.agreement.proofs.Ready.{IsReady}
 use Rattle.agreement.proofs.Following.{Follows}
-use Rattle.agreement.proofs.AnyCalls.{Sound, woken-sound, any-sound, any-follows}
+use Rattle.agreement.proofs.AnyCalls.{Sound, woken-sound, begun-sound, any-sound, Reads, any-reads}
 use Rattle.agreement.proofs.Ending.{quiet-empty, quiet-shut}
 
 one-or-two : (n : ℕ) → between 1 2 n ≡ true → (n ≡ 1) ⊎ (n ≡ 2)
@@ -108,11 +108,13 @@ module _ (earlier calls : List Call) (begins : mayBegin (afterCalls woken earlie
   unfolding start end
   third-demand key low high other =
       let reached = any-sound earlier woken woken-sound in
-      let begun-sound : Sound start = record { range = reached .range; settled = reached .settled } in
-      let sound = any-sound calls start begun-sound in
-      let follows = any-follows calls start begun-sound calm (begin-follows (afterCalls woken earlier) reached begins) in
+      let begins-sound = begun-sound (afterCalls woken earlier) reached in
+      let sound = any-sound calls start begins-sound in
+      let begun-reads : Reads start = record { follows = begin-follows (afterCalls woken earlier) reached begins; same = refl } in
+      let follows = any-reads calls start begins-sound calm begun-reads .follows in
       let d = end .dock in
       let read = told-empty (d .mode .set) (end .terminal) (d .keys) (quiet-empty d nothing) (follows .told) in
       let flag = ap (λ (t : Terminal). getD (t .down) key 0) read ∙ getD-set-other (d .keys .held) 101 key 0 0 other in
       ap (λ (n : ℕ). not (eqb n 0)) flag
-      ∙ held-is-said d (end .scans) (sound .settled .ready) (quiet-shut d (end .scans) (sound .settled) nothing) key low
+      ∙ held-is-said d (end .onlooker .scans) (sound .settled .ready) (quiet-shut d (end .onlooker .scans) (sound .settled) nothing) key low
+      ∙ ap (λ (map : List ℕ). saysHeld map (end .onlooker .scans) key) (sound .knows .0)

@@ -34,10 +34,11 @@ use Rattle.telling.specs.Overruns.{lacksRoom, overrunsAt, overrunsTo}
 use Rattle.terminal.specs.Terminals.{begun, hears}
 use Rattle.runs.specs.Bytes.{givenIn}
 use Rattle.runs.specs.Calls.{clears, isClearing}
-use Rattle.runs.specs.Worlds.{woken, isReset, scansAfterScan, scansAfterSwap, scansAfterFrame, next, afterCalls}
+use Rattle.runs.specs.Onlookers.{atPowerOn, isCountedBy, sawScan, isMap, sawSwap, scanningAfter, waitingAfter, sawByte}
+use Rattle.runs.specs.Worlds.{woken, next, afterCalls}
 use Rattle.runs.specs.Runs.{mayBegin, changesOverrun, overruns, undisturbed}
 use Rattle.runs.specs.Stories.{Story, outcome, flagged, saidFrom, host, nothing, showing, showingToo}
-use Rattle.runs.specs.Told.{stories, limestone, heldOn, repeatEnded, shiftedCursor, shiftedCursorInSet1, twelve, twelvePressed, twelveReleased, longHandover, secondSwap, waitingCommand, thirdScan, pauseStruck, refusals}
+use Rattle.runs.specs.Told.{stories, limestone, heldOn, repeatEnded, shiftedCursor, shiftedCursorInSet1, twelve, twelvePressed, twelveReleased, longHandover, secondSwap, otherPanel, waitingCommand, scanningOff, phantomScans, waitingReply, thirdScan, pauseStruck, refusals}
 
 -- The list names every unfoldable definition that a story computes through, crate by crate. If one is missing, the two sides stand
 -- still and `refl` is refused: add it here.
@@ -63,8 +64,8 @@ unfolding
     threeFirst threeInARow saysClosed shownAt
     lacksRoom overrunsAt overrunsTo
     begun hears
-    clears isClearing isReset woken scansAfterScan scansAfterSwap scansAfterFrame next afterCalls mayBegin changesOverrun
+    clears isClearing atPowerOn isCountedBy sawScan isMap sawSwap scanningAfter waitingAfter sawByte woken next afterCalls mayBegin changesOverrun
     overruns undisturbed outcome flagged saidFrom host nothing showing showingToo stories limestone heldOn repeatEnded
     shiftedCursor shiftedCursorInSet1 twelve twelvePressed twelveReleased givenIn longHandover secondSwap
-    waitingCommand thirdScan pauseStruck refusals
+    otherPanel waitingCommand scanningOff phantomScans waitingReply thirdScan pauseStruck refusals
 all-as-told = refl

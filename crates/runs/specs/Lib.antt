@@ -1,4 +1,5 @@
 pub mod Calls
+pub mod Onlookers
 pub mod Worlds
 pub mod Runs
 pub mod Bytes

@@ -20,9 +20,9 @@ unfoldable pub mayBegin : Dock → Bool
 mayBegin d =
     both (quiet d) (both (allUpTo 0 (d .keys .held)) (both (eqb (d .waiting) 0) (between 1 2 (d .mode .set))))
 
--- The terminal begins to read there, with no key down.
+-- The terminal begins to read there, by the set that is chosen, with no key down.
 abbrev pub beginning : World → World
-beginning w = world (w .dock) (w .scans) begun
+beginning w = world (w .dock) (w .onlooker) (w .dock .mode .set) begun
 
 -- The changes of a scan overrun the queue: one of them does not fit.
 unfoldable pub changesOverrun : Dock → List ℕ → Bool

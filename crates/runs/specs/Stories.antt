@@ -46,7 +46,7 @@ outcome earlier calls =
       undisturbed = undisturbed start calls;
       quiet = quiet (end .dock);
       down = flagged 0 (end .terminal .down);
-      said = saidFrom 0 (end .dock .map) (end .scans);
+      said = saidFrom 0 (end .onlooker .map) (end .onlooker .scans);
       bytes = givenIn start calls;
     }
 

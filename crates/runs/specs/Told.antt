@@ -2,7 +2,8 @@
 -- row 1 of column 5, UP row 0 of column 8, and PAUSE row 4 of column 12. Assumes nothing.
 use Prim.Native.Nat.{ℕ, suc}
 use mathlib.Core.List.{List, [], _∷_, _++_}
-use lib.ListN.{replicate}
+use lib.ListN.{replicate, set}
+use Rattle.frames.specs.Frames.{packedOf}
 use Rattle.keys.specs.Keys.{lastKey}
 use Rattle.record.specs.Power.{plainMap}
 use Rattle.runs.specs.Calls.{Scan, Swap, Frame}
@@ -65,12 +66,28 @@ unfoldable pub secondSwap : Story
 secondSwap =
     story (reads 1) (scans 3 twelve ++ reads 12 ++ Swap plainMap ∷ reads 3 ++ Swap plainMap ∷ reads 21) (agreeing (twelvePressed ++ twelveReleased) [])
 
--- Scans that come while a command waits for its value are not counted. The value turns Num Lock on, so UP has its form.
+-- Scans that come while a command waits for its value are not counted,
 unfoldable pub waitingCommand : Story
-waitingCommand =
-    story (reads 1)
-    (host 0xed ++ scans 3 (showing 0 4) ++ host 2 ++ scans 3 (showing 8 1) ++ reads 4)
+waitingCommand = story (reads 1) (host 0xed ++ scans 3 (showing 0 4) ++ host 2 ++ reads 1) (agreeing [] [])
+
+-- nor are those that come while scanning is off,
+unfoldable pub scanningOff : Story
+scanningOff = story (reads 1 ++ host 0xf5 ++ scans 3 (showing 0 4) ++ host 0xf4) (scans 2 (showing 0 4) ++ reads 1) (agreeing [] [])
+
+-- nor phantom ones: they neither press the four keys nor release UP. Num Lock is on, so UP has its form.
+unfoldable pub phantomScans : Story
+phantomScans =
+    story (reads 1 ++ host 0xed ++ host 2)
+    (scans 3 (showing 8 1) ++ reads 4 ++ scans 3 (showingToo 1 3 (showing 0 3)) ++ reads 1)
     (agreeing (0xe0 ∷ 0x12 ∷ 0xe0 ∷ 0x75 ∷ []) (65 ∷ []))
+
+-- Those that come while a reply waits are counted.
+unfoldable pub waitingReply : Story
+waitingReply = story (reads 1) (Frame (packedOf 0xee) ∷ scans 3 (showing 0 4) ++ reads 2) (agreeing (0x1e ∷ []) (3 ∷ []))
+
+-- Another panel, on which the 2 and the 3 have changed places.
+unfoldable pub otherPanel : Story
+otherPanel = story (reads 1) (Swap (set (set plainMap 2 4) 3 3) ∷ scans 3 (showing 0 4) ++ reads 1) (agreeing (0x26 ∷ []) (4 ∷ []))
 
 -- Scans counted before the terminal begins count: the third comes after it.
 unfoldable pub thirdScan : Story
@@ -90,5 +107,5 @@ refusals =
 -- All of them.
 unfoldable pub stories : List Story
 stories =
-    limestone ∷ heldOn ∷ repeatEnded ∷ shiftedCursor ∷ shiftedCursorInSet1 ∷ longHandover ∷ secondSwap ∷ waitingCommand
-    ∷ thirdScan ∷ pauseStruck ∷ refusals ∷ []
+    limestone ∷ heldOn ∷ repeatEnded ∷ shiftedCursor ∷ shiftedCursorInSet1 ∷ longHandover ∷ secondSwap ∷ otherPanel
+    ∷ waitingCommand ∷ scanningOff ∷ phantomScans ∷ waitingReply ∷ thirdScan ∷ pauseStruck ∷ refusals ∷ []

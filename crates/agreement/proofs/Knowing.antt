@@ -1,0 +1,242 @@
+-- What the onlooker knows is so: the map, whether scanning is on, and the command that waits are those of the dock, whatever is called.
+-- And the set stays where no byte clears the queue. Assumes nothing.
+use mathlib.Core.Path.{_≡_, refl, ap, _∙_}
+use mathlib.Core.Bool.{Bool, true, false, not}
+use mathlib.Core.List.{List, [], _∷_}
+use Prim.Native.Nat.{ℕ, _-_}
+use native.Mathlib.Omega.{arith}
+use borrow.Author.Tests.{eqb-true, eqb-false, leb-true, leb-false, ne-eqb}
+use lib.Dec.{eqb, leb}
+use lib.ListN.{length}
+use Rattle.basics.specs.Choice.{pick, both, between}
+use Rattle.basics.specs.Lists.{allUpTo}
+use Rattle.basics.proofs.Cases.{by-cases, picked}
+use Rattle.basics.proofs.Flags.{right-of-both}
+use Rattle.commands.specs.Commands.{cleared, readied, enabled, defaulted, disabled, typed, restarted, obeyed, replying, commanded}
+use Rattle.dock.specs.declared.Answer.the-variants.{Accepted, MapLength, MapEntry, MapDouble}
+use Rattle.dock.specs.declared.Answered.{Answered}
+use Rattle.dock.specs.declared.Taken.{Taken}
+use Rattle.dock.specs.declared.Given.the-variants.{Nothing}
+use Rattle.dock.specs.Answers.{answered, taken}
+use Rattle.dock.specs.Closing.{closing, withHanded}
+use Rattle.dock.specs.Frame.{tookFrame, frameOf}
+use Rattle.dock.specs.Read.{remembering, replyTaken, keyByteTaken, read, readOf}
+use Rattle.dock.specs.Scan.{listening, counting, changed, repeating, heardScan, scanned, scanOf}
+use Rattle.dock.specs.Swap.{opened, remapped, swapped, swapOf}
+use Rattle.frames.specs.declared.Unpacked.{Unpacked}
+use Rattle.frames.specs.declared.Unpacked.the-variants.{Byte, Broken, TooLarge}
+use Rattle.frames.specs.Frames.{unpackedOf}
+use Rattle.host.specs.Values.{rightValue, valued, tookValue, tookByte}
+use Rattle.keying.specs.Handover.{handedOver}
+use Rattle.keying.specs.Repeat.{ticked}
+use Rattle.keys.specs.Keys.{lastKey}
+use Rattle.maps.specs.Maps.{hasDouble}
+use Rattle.phantom.specs.Phantom.{isPhantom}
+use Rattle.range.specs.Range.{inRange, takesValue}
+use Rattle.record.specs.declared.Dock.{Dock}
+use Rattle.record.specs.Parts.{withKeys, withWaiting}
+use Rattle.record.specs.Power.{freshWith}
+use Rattle.runs.specs.Calls.{clears, carries, isClearing}
+use Rattle.runs.specs.Onlookers.{Onlooker, onlooker, sawScan, isMap, sawSwap, scanningAfter, waitingAfter, sawByte, sawFrame}
+use Rattle.agreement.proofs.Framed.{Mild, mild, obeyed-mild}
+
+-- Scanning, the command that waits and the mode stay, and this is the map then.
+abbrev Stays : List ℕ → Dock → Dock → Type 0
+Stays map d e = (e .map ≡ map) × (e .scanning ≡ d .scanning) × (e .waiting ≡ d .waiting) × (e .mode ≡ d .mode)
+
+module _ (map : List ℕ) (d : Dock) where
+  closing-stays : (e : Dock) → Stays map d e → Stays map d (closing e)
+  unfolding closing
+  closing-stays e s = picked (Stays map d) (e .handover) (withHanded e (handedOver (e .keys) (e .mode) (e .types))) e s s
+
+-- A scan.
+pub scan-stays : (d : Dock) (scan : List ℕ) → Stays (d .map) d (scanOf d scan .dock)
+unfolding scanOf scanned heardScan changed counting repeating
+scan-stays d scan =
+    let same : Stays (d .map) d d = (refl, refl, refl, refl) in
+    let still = withKeys d (ticked (d .keys)) in
+    let Fine : Answered → Type 0 = λ (a : Answered). Stays (d .map) d (a .dock) in
+    picked Fine (inRange d) _ _
+    (picked Fine (eqb (length scan) 18) _ _
+    (picked (Stays (d .map) d) (listening d) _ _
+    (picked (λ (e : Dock). Stays (d .map) d (repeating e)) (isPhantom scan) still (counting still scan) same same)
+    (closing-stays (d .map) d d same))
+    same)
+    same
+
+-- A read.
+pub read-stays : (d : Dock) → Stays (d .map) d (readOf d .dock)
+unfolding readOf read replyTaken keyByteTaken remembering
+read-stays d =
+    let same : Stays (d .map) d d = (refl, refl, refl, refl) in
+    let Fine : Taken → Type 0 = λ (t : Taken). Stays (d .map) d (t .dock) in
+    picked Fine (inRange d) _ _
+    (picked Fine (eqb (d .replies .length) 0) _ _
+    (picked Fine (eqb (d .keys .queue .length) 0) (taken Nothing (closing d)) (keyByteTaken d)
+    (closing-stays (d .map) d d same)
+    (closing-stays (d .map) d _ same))
+    (closing-stays (d .map) d _ same))
+    same
+
+-- A swap.
+pub swap-stays : (d : Dock) (map : List ℕ) → inRange d ≡ true → Stays (pick (isMap map) map (d .map)) d (swapOf d map .dock)
+unfolding swapOf swapped isMap remapped opened
+swap-stays d map range = rw range (go (eqb (length map) 144) (allUpTo lastKey map) (hasDouble map))
+  where
+    same : Stays (d .map) d d
+    same = (refl, refl, refl, refl)
+
+    new : Stays map d (closing (remapped d map))
+    new = closing-stays map d (remapped d map) (picked (Stays map d) (d .handover) _ (opened d map) (refl, refl, refl, refl) (refl, refl, refl, refl))
+
+    go : (long entries double : Bool)
+        → Stays (pick (both long (both entries (not double))) map (d .map)) d
+        ((pick long (pick entries (pick double (answered MapDouble d) (answered Accepted (swapped d map))) (answered MapEntry d)) (answered MapLength d)) .dock)
+    go false entries double = same
+    go true false double = same
+    go true true true = same
+    go true true false = new
+
+-- A byte from the host that turns scanning neither on nor off.
+unturned : (byte : ℕ) (scanning : Bool) → (byte ≡ 0xf4 → ⊥) → (byte ≡ 0xf5 → ⊥) → (byte ≡ 0xff → ⊥) → scanning ≡ scanningAfter byte scanning
+unfolding scanningAfter
+unturned byte scanning a b c = rw (ne-eqb byte 0xf4 a, ne-eqb byte 0xf5 b, ne-eqb byte 0xff c)
+
+module _ (d : Dock) (byte : ℕ) where
+  Turned : Dock → Type 0
+  Turned e = e .scanning ≡ scanningAfter byte (d .scanning)
+
+  obeyed-scanning : Turned (obeyed byte d)
+  unfolding obeyed scanningAfter freshWith Turned
+  obeyed-scanning =
+      by-cases Turned (eqb byte 0xf0) (readied d) _ (λ h. rw (eqb-true byte 0xf0 h))
+      (λ h. by-cases Turned (eqb byte 0xf4) (enabled d) _ (λ h. rw (eqb-true byte 0xf4 h))
+      (λ on. by-cases Turned (eqb byte 0xf5) (disabled d) _ (λ h. rw (eqb-true byte 0xf5 h))
+      (λ off. by-cases Turned (eqb byte 0xf6) (defaulted d) _ (λ h. rw (eqb-true byte 0xf6 h))
+      (λ h. by-cases Turned (between 0xf7 0xfa byte) (typed (byte - 0xf7) d) _
+      (λ h.
+      let most = leb-true byte 0xfa (right-of-both (leb 0xf7 byte) (leb byte 0xfa) h) in
+      unturned byte (d .scanning) (eqb-false byte 0xf4 on) (eqb-false byte 0xf5 off) (λ e. omega arith))
+      (λ h. by-cases Turned (between 0xfb 0xfd byte) (cleared d) _
+      (λ h.
+      let most = leb-true byte 0xfd (right-of-both (leb 0xfb byte) (leb byte 0xfd) h) in
+      unturned byte (d .scanning) (eqb-false byte 0xf4 on) (eqb-false byte 0xf5 off) (λ e. omega arith))
+      (λ h. by-cases Turned (eqb byte 0xff) (restarted d) d (λ h. rw (eqb-true byte 0xff h))
+      (λ reset. unturned byte (d .scanning) (eqb-false byte 0xf4 on) (eqb-false byte 0xf5 off) (eqb-false byte 0xff reset))))))))
+
+  value-scanning : tookValue byte d .scanning ≡ d .scanning
+  unfolding tookValue valued
+  value-scanning =
+      let Same : Dock → Type 0 = λ (e : Dock). e .scanning ≡ d .scanning in
+      picked Same (rightValue (d .waiting) byte) _ _
+      (picked Same (eqb (d .waiting) 0xed) _ _ refl (picked Same (eqb (d .waiting) 0xf0) _ _ refl (picked Same (eqb (d .waiting) 0xf3) _ _ refl refl)))
+      refl
+
+  took-scanning : tookByte byte d .scanning ≡ scanningAfter byte (d .scanning)
+  unfolding tookByte commanded scanningAfter Turned
+  took-scanning =
+      by-cases Turned (eqb byte 0xfe) (replying (d .given ∷ []) d) _ (λ h. rw (eqb-true byte 0xfe h))
+      (λ h. by-cases Turned (leb 0xed byte) (commanded byte d) (tookValue byte d) (λ h. obeyed-scanning)
+      (λ h.
+      let small = leb-false 0xed byte h in
+      value-scanning ∙ unturned byte (d .scanning) (λ e. omega arith) (λ e. omega arith) (λ e. omega arith)))
+
+  took-waiting : tookByte byte d .waiting ≡ waitingAfter byte (d .waiting)
+  unfolding tookByte commanded tookValue waitingAfter
+  took-waiting = go (eqb byte 0xfe) (leb 0xed byte) (rightValue (d .waiting) byte)
+    where
+      go : (again command right : Bool)
+          → (pick again (replying (d .given ∷ []) d)
+          (pick command (commanded byte d)
+          (pick right (replying (0xfa ∷ []) (withWaiting (valued (d .waiting) byte d) 0)) (replying (0xfe ∷ []) d)))) .waiting
+          ≡ pick again (d .waiting) (pick command (pick (takesValue byte) byte 0) (pick right 0 (d .waiting)))
+      go true command right = refl
+      go false true right = refl
+      go false false true = refl
+      go false false false = refl
+
+  took-map : tookByte byte d .map ≡ d .map
+  unfolding tookByte commanded obeyed tookValue valued freshWith
+  took-map =
+      let Same : Dock → Type 0 = λ (e : Dock). e .map ≡ d .map in
+      picked Same (eqb byte 0xfe) (replying (d .given ∷ []) d) _ refl
+      (picked Same (leb 0xed byte) (commanded byte d) (tookValue byte d)
+      (picked Same (eqb byte 0xf0) (readied d) _ refl
+      (picked Same (eqb byte 0xf4) (enabled d) _ refl
+      (picked Same (eqb byte 0xf5) (disabled d) _ refl
+      (picked Same (eqb byte 0xf6) (defaulted d) _ refl
+      (picked Same (between 0xf7 0xfa byte) (typed (byte - 0xf7) d) _ refl
+      (picked Same (between 0xfb 0xfd byte) (cleared d) _ refl
+      (picked Same (eqb byte 0xff) (restarted d) d refl refl)))))))
+      (picked Same (rightValue (d .waiting) byte) _ _
+      (picked Same (eqb (d .waiting) 0xed) _ _ refl (picked Same (eqb (d .waiting) 0xf0) _ _ refl (picked Same (eqb (d .waiting) 0xf3) _ _ refl refl)))
+      refl))
+
+  -- Only F0 and its value choose a set.
+  took-set : Mild byte → (d .waiting ≡ 0xf0 → ⊥) → tookByte byte d .mode .set ≡ d .mode .set
+  unfolding tookByte commanded tookValue valued
+  took-set m firm =
+      let Same : Dock → Type 0 = λ (e : Dock). e .mode .set ≡ d .mode .set in
+      picked Same (eqb byte 0xfe) (replying (d .given ∷ []) d) _ refl
+      (picked Same (leb 0xed byte) (commanded byte d) (tookValue byte d)
+      (ap (λ (e : Dock). e .mode .set) (obeyed-mild byte d m))
+      (picked Same (rightValue (d .waiting) byte) _ _
+      (picked Same (eqb (d .waiting) 0xed) _ _ refl
+      (by-cases Same (eqb (d .waiting) 0xf0) _ _ (λ h. absurd (firm (eqb-true (d .waiting) 0xf0 h)))
+      (λ h. picked Same (eqb (d .waiting) 0xf3) _ _ refl refl)))
+      refl))
+
+-- What the onlooker knows is so.
+abbrev pub Knows : Dock → Onlooker → Type 0
+Knows d o = (d .map ≡ o .map) × (d .scanning ≡ o .scanning) × (d .waiting ≡ o .waiting)
+
+closing-knows : (e : Dock) (o : Onlooker) → Knows e o → Knows (closing e) o
+unfolding closing
+closing-knows e o k = picked (λ (x : Dock). Knows x o) (e .handover) (withHanded e (handedOver (e .keys) (e .mode) (e .types))) e k k
+
+closing-set : (e : Dock) → closing e .mode .set ≡ e .mode .set
+unfolding closing
+closing-set e = picked (λ (x : Dock). x .mode .set ≡ e .mode .set) (e .handover) (withHanded e (handedOver (e .keys) (e .mode) (e .types))) e refl refl
+
+module _ (d : Dock) (o : Onlooker) (k : Knows d o) (range : inRange d ≡ true) where
+  pub scan-knows : (scan : List ℕ) → Knows (scanOf d scan .dock) (sawScan (d .handover) scan o)
+  unfolding sawScan
+  scan-knows scan =
+      let s = scan-stays d scan in
+      (s .0 ∙ k .0, s .1 ∙ k .1, s .2 ∙ k .2)
+
+  pub read-knows : Knows (readOf d .dock) o
+  read-knows =
+      let s = read-stays d in
+      (s .0 ∙ k .0, s .1 ∙ k .1, s .2 ∙ k .2)
+
+  pub swap-knows : (map : List ℕ) → Knows (swapOf d map .dock) (sawSwap map o)
+  unfolding sawSwap
+  swap-knows map = go (isMap map) (swap-stays d map range)
+    where
+      go : (b : Bool) → Stays (pick b map (d .map)) d (swapOf d map .dock)
+          → Knows (swapOf d map .dock) (pick b (onlooker map (o .scanning) (o .waiting) []) o)
+      go true s = (s .0, s .1 ∙ k .1, s .2 ∙ k .2)
+      go false s = (s .0 ∙ k .0, s .1 ∙ k .1, s .2 ∙ k .2)
+
+  pub frame-knows : (number : ℕ) → Knows (frameOf d number .dock) (sawFrame (unpackedOf number) o)
+  unfolding frameOf tookFrame sawByte
+  frame-knows number = rw range (go (unpackedOf number))
+    where
+      go : (u : Unpacked) → Knows (tookFrame u d .dock) (sawFrame u o)
+      go (Byte byte) =
+          closing-knows (tookByte byte d) (sawByte byte o)
+          (took-map d byte ∙ k .0, took-scanning d byte ∙ ap (scanningAfter byte) (k .1), took-waiting d byte ∙ ap (waitingAfter byte) (k .2))
+      go Broken = closing-knows (replying (0xfe ∷ []) d) o k
+      go TooLarge = k
+
+-- The set after a frame that does not clear the queue, where none is being chosen.
+pub frame-set : (d : Dock) (number : ℕ) → inRange d ≡ true → isClearing number ≡ false → (d .waiting ≡ 0xf0 → ⊥)
+    → frameOf d number .dock .mode .set ≡ d .mode .set
+unfolding frameOf tookFrame isClearing
+frame-set d number range c firm = rw range (go (unpackedOf number) c)
+  where
+    go : (u : Unpacked) → carries clears u ≡ false → tookFrame u d .dock .mode .set ≡ d .mode .set
+    go (Byte byte) c = closing-set (tookByte byte d) ∙ took-set d byte (mild byte c) firm
+    go Broken c = closing-set (replying (0xfe ∷ []) d)
+    go TooLarge c = refl

@@ -1,0 +1,72 @@
+-- What an onlooker knows who hears every call of a dock and cannot look into it (docs/RULES.md, section 13). Assumes nothing.
+use Prim.Native.Nat.{ℕ}
+use mathlib.Core.Bool.{Bool, true, false, not}
+use mathlib.Core.List.{List, [], _∷_, _++_}
+use lib.Dec.{eqb, leb}
+use lib.ListN.{length}
+use Rattle.basics.specs.Choice.{pick, both}
+use Rattle.basics.specs.Lists.{allUpTo}
+use Rattle.frames.specs.declared.Unpacked.{Unpacked}
+use Rattle.frames.specs.declared.Unpacked.the-variants.{Byte, Broken, TooLarge}
+use Rattle.host.specs.Values.{rightValue}
+use Rattle.keys.specs.Keys.{lastKey}
+use Rattle.maps.specs.Maps.{hasDouble}
+use Rattle.phantom.specs.Phantom.{isPhantom}
+use Rattle.range.specs.Range.{takesValue}
+use Rattle.record.specs.Power.{plainMap}
+
+-- The map of the panel that is clipped on, whether scanning is on, the command that waits for its value (0 for none), and the scans
+-- counted since the last power-on, reset or swap, in the order in which they came.
+pub record Onlooker : Type 0 where
+  pub map : List ℕ
+  pub scanning : Bool
+  pub waiting : ℕ
+  pub scans : List (List ℕ)
+
+-- An onlooker who knows this.
+abbrev pub onlooker : List ℕ → Bool → ℕ → List (List ℕ) → Onlooker
+onlooker map scanning waiting scans = record { map = map; scanning = scanning; waiting = waiting; scans = scans }
+
+-- Power-on: the plain map, scanning on, no command waits, no scan was counted.
+unfoldable pub atPowerOn : Onlooker
+atPowerOn = onlooker plainMap true 0 []
+
+-- A scan is counted if it has 18 bytes, scanning is on, no command waits for its value, no swap is unfinished, and it is not phantom. Only
+-- whether a swap is unfinished has to be asked of the dock: that is a matter of its queue.
+unfoldable pub isCountedBy : Onlooker → Bool → List ℕ → Bool
+isCountedBy o unfinished scan =
+    both (eqb (length scan) 18) (both (both (o .scanning) (both (eqb (o .waiting) 0) (not unfinished))) (not (isPhantom scan)))
+
+-- A scan: it joins the others if it is counted.
+unfoldable pub sawScan : Bool → List ℕ → Onlooker → Onlooker
+sawScan unfinished scan o =
+    onlooker (o .map) (o .scanning) (o .waiting) (pick (isCountedBy o unfinished scan) (o .scans ++ (scan ∷ [])) (o .scans))
+
+-- A map that a swap can bring: 144 entries, each a key or 0, and no key twice.
+unfoldable pub isMap : List ℕ → Bool
+isMap map = both (eqb (length map) 144) (both (allUpTo lastKey map) (not (hasDouble map)))
+
+-- A swap: with a map it brings another panel, of which no scan was counted yet. What is no map is refused.
+unfoldable pub sawSwap : List ℕ → Onlooker → Onlooker
+sawSwap map o = pick (isMap map) (onlooker map (o .scanning) (o .waiting) []) o
+
+-- Whether scanning is on after a byte from the host: F4 turns it on, F5 off, and the reset on.
+unfoldable pub scanningAfter : ℕ → Bool → Bool
+scanningAfter byte scanning = pick (eqb byte 0xf4) true (pick (eqb byte 0xf5) false (pick (eqb byte 0xff) true scanning))
+
+-- The command that waits after a byte: FE leaves it waiting, a command waits if it takes a value, a right value ends the wait.
+unfoldable pub waitingAfter : ℕ → ℕ → ℕ
+waitingAfter byte waiting =
+    pick (eqb byte 0xfe) waiting
+    (pick (leb 0xed byte) (pick (takesValue byte) byte 0) (pick (rightValue waiting byte) 0 waiting))
+
+-- A byte from the host. After a reset no scan was counted.
+unfoldable pub sawByte : ℕ → Onlooker → Onlooker
+sawByte byte o =
+    onlooker (o .map) (scanningAfter byte (o .scanning)) (waitingAfter byte (o .waiting)) (pick (eqb byte 0xff) [] (o .scans))
+
+-- A frame: a broken one and one over 2047 carry no byte.
+abbrev pub sawFrame : Unpacked → Onlooker → Onlooker
+sawFrame (Byte byte) o = sawByte byte o
+sawFrame Broken o = o
+sawFrame TooLarge o = o
