@@ -14,16 +14,20 @@ use Rattle.basics.proofs.Sameness.{same-is}
 use Rattle.keys.specs.Keys.{rows, rowOf, codeIn, lastKey}
 use Rattle.lookup.specs.Lookup.{keyWith, firstWith}
 use Rattle.codes.specs.declared.Form.the-variants.{Plain, Other}
-use Rattle.codes.specs.Codes.{makeOf, breakOf, prefix, codeOf}
+use Rattle.codes.specs.Codes.{makeOf, breakOf, prefix, codeOf, pauseBytes}
 use Rattle.reader.specs.declared.Event.{Event}
 use Rattle.reader.specs.declared.Event.the-variants.{More, Pressed, Released, PauseStruck, Wrapping, Overrun, Unknown, BadState, BadSet}
 use Rattle.reader.specs.States.{beginnings, seen}
 use Rattle.reader.specs.Reader.{readByte, inSet1, inSet2, inSet3, heard}
-use Rattle.roundtrip.specs.OwnCode.{GoesDown, ComesUp}
+use Rattle.roundtrip.specs.OwnCode.{GoesDown, ComesUp, StrikesPause}
 
 -- A number and a list that pass these tests are a key and its code in a set.
 isCode : ℕ → ℕ → List ℕ → List ℕ → List ℕ → Bool
 isCode set key bytes plain other = both (between 1 lastKey key) (either (same bytes plain) (both (not (eqb set 3)) (same bytes other)))
+
+-- A list that passes these tests says in a set that PAUSE was struck.
+isPause : ℕ → List ℕ → Bool
+isPause set bytes = both (not (eqb set 3)) (either (same bytes (pauseBytes set Plain)) (same bytes (makeOf (codeOf set 101 Plain))))
 
 -- What an answer may say of all the bytes read so far.
 right : ℕ → List ℕ → ℕ → Event → Bool
@@ -32,7 +36,7 @@ right set bytes next (Pressed key) =
     both (eqb next 0) (isCode set key bytes (makeOf (codeOf set key Plain)) (makeOf (codeOf set key Other)))
 right set bytes next (Released key) =
     both (eqb next 0) (isCode set key bytes (breakOf set (codeOf set key Plain)) (breakOf set (codeOf set key Other)))
-right set bytes next PauseStruck = eqb next 0
+right set bytes next PauseStruck = both (eqb next 0) (isPause set bytes)
 right set bytes next Wrapping = eqb next 0
 right set bytes next Overrun = eqb next 0
 right set bytes next Unknown = eqb next 0
@@ -48,15 +52,15 @@ everywhere : ℕ → Bool
 everywhere set = allBelow (λ state. allBelow (rightAt set state) 256) 15
 
 in-set-1 : T (everywhere 1)
-unfolding everywhere rightAt right isCode same beginnings seen rows rowOf codeIn keyWith firstWith makeOf breakOf prefix codeOf readByte inSet1 heard
+unfolding everywhere rightAt right isCode isPause pauseBytes same beginnings seen rows rowOf codeIn keyWith firstWith makeOf breakOf prefix codeOf readByte inSet1 heard
 in-set-1 = tt
 
 in-set-2 : T (everywhere 2)
-unfolding everywhere rightAt right isCode same beginnings seen rows rowOf codeIn keyWith firstWith makeOf breakOf prefix codeOf readByte inSet2 heard
+unfolding everywhere rightAt right isCode isPause pauseBytes same beginnings seen rows rowOf codeIn keyWith firstWith makeOf breakOf prefix codeOf readByte inSet2 heard
 in-set-2 = tt
 
 in-set-3 : T (everywhere 3)
-unfolding everywhere rightAt right isCode same beginnings seen rows rowOf codeIn keyWith firstWith makeOf breakOf prefix codeOf readByte inSet3
+unfolding everywhere rightAt right isCode isPause pauseBytes same beginnings seen rows rowOf codeIn keyWith firstWith makeOf breakOf prefix codeOf readByte inSet3
 in-set-3 = tt
 
 at : (set state byte : ℕ) → 1 ≤ set → set ≤ 3 → state ≤ 14 → byte < 256 → T (rightAt set state byte)
@@ -72,6 +76,18 @@ at set state byte low high s b = each set low high
     each (suc (suc zero)) l h = from 2 in-set-2
     each (suc (suc (suc zero))) l h = from 3 in-set-3
     each (suc (suc (suc (suc n)))) l h = absurd (omega arith)
+
+-- A test that a set is not 3, passed.
+not-3 : (set : ℕ) → T (not (eqb set 3)) → set ≡ 3 → ⊥
+not-3 set t third = subst (λ (n : ℕ). T (not (eqb n 3))) third t
+
+-- One of two lists.
+one-of : (bytes plain other : List ℕ) → T (either (same bytes plain) (same bytes other)) → (bytes ≡ plain) ⊎ (bytes ≡ other)
+one-of bytes plain other t = go (same bytes plain) refl t
+  where
+    go : (b : Bool) → same bytes plain ≡ b → T (either b (same bytes other)) → (bytes ≡ plain) ⊎ (bytes ≡ other)
+    go true e h = inl (same-is bytes plain e)
+    go false e h = inr (same-is bytes other (passed (same bytes other) h))
 
 code-of : (set key : ℕ) (bytes plain other : List ℕ) → T (isCode set key bytes plain other)
     → (1 ≤ key) × (key ≤ lastKey) × ((bytes ≡ plain) ⊎ ((set ≡ 3 → ⊥) × (bytes ≡ other)))
@@ -92,7 +108,7 @@ code-of set key bytes plain other t = (
     go true e h = inl (same-is bytes plain e)
     go false e h =
         inr (
-          λ third. subst (λ (n : ℕ). T (not (eqb n 3))) third (both-left (not (eqb set 3)) (same bytes other) h),
+          not-3 set (both-left (not (eqb set 3)) (same bytes other) h),
           same-is bytes other (passed (same bytes other) (both-right (not (eqb set 3)) (same bytes other) h)),
         )
 
@@ -121,6 +137,19 @@ module _ (set state byte : ℕ) (low : 1 ≤ set) (high : set ≤ 3) (s : state 
       let t = code-of set key (seen state ++ byte ∷ []) (breakOf set (codeOf set key Plain)) (breakOf set (codeOf set key Other))
       (both-right (eqb (readByte set state byte .state) 0) _ (told (Released key) e)) in
       record { low = t .0; high = t .1; code = t .2 }
+
+  -- PAUSE is struck only at the end of its own bytes.
+  pub paused-by-its-code : readByte set state byte .event ≡ PauseStruck → StrikesPause set (seen state ++ byte ∷ [])
+  unfolding right isPause
+  paused-by-its-code e =
+      let bytes = seen state ++ byte ∷ [] in
+      let plain = pauseBytes set Plain in
+      let ctrl = makeOf (codeOf set 101 Plain) in
+      let t = both-right (eqb (readByte set state byte .state) 0) _ (told PauseStruck e) in
+      record {
+        apart = not-3 set (both-left (not (eqb set 3)) (either (same bytes plain) (same bytes ctrl)) t);
+        code = one-of bytes plain ctrl (both-right (not (eqb set 3)) (either (same bytes plain) (same bytes ctrl)) t);
+      }
 
   -- Where more is needed, the next state stands for exactly the bytes read so far.
   pub state-is-what-was-read : readByte set state byte .event ≡ More → seen (readByte set state byte .state) ≡ seen state ++ byte ∷ []

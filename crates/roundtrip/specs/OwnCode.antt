@@ -5,7 +5,7 @@ use mathlib.Core.Logic.{_⊎_}
 use Prim.Native.Nat.{ℕ, _≤_}
 use Rattle.keys.specs.Keys.{lastKey}
 use Rattle.codes.specs.declared.Form.the-variants.{Plain, Other}
-use Rattle.codes.specs.Codes.{makeOf, breakOf, codeOf}
+use Rattle.codes.specs.Codes.{makeOf, breakOf, codeOf, pauseBytes}
 
 -- These bytes are what a key sends in a set when it goes down, wrapping apart: its code, or that of its other form. Set 3 has no other
 -- form: what would be the code of one there is that of another key.
@@ -19,3 +19,9 @@ pub record ComesUp (set key : ℕ) (bytes : List ℕ) : Type 0 where
   pub low : 1 ≤ key
   pub high : key ≤ lastKey
   pub code : (bytes ≡ breakOf set (codeOf set key Plain)) ⊎ ((set ≡ 3 → ⊥) × (bytes ≡ breakOf set (codeOf set key Other)))
+
+-- These bytes tell that PAUSE was struck: all that it sends by itself, or the make of its code, with which it begins under a CTRL. In set 3
+-- it is a key like any other.
+pub record StrikesPause (set : ℕ) (bytes : List ℕ) : Type 0 where
+  pub apart : set ≡ 3 → ⊥
+  pub code : (bytes ≡ pauseBytes set Plain) ⊎ (bytes ≡ makeOf (codeOf set 101 Plain))
