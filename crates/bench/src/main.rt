@@ -17,6 +17,7 @@ ghost use Prim.Native.Nat.{_≤_, _+_};
 ghost use lib.ListN.{length};
 ghost use Rattle.record.specs.Apart.{dockWith};
 ghost use Rattle.range.specs.Range.{inRange};
+ghost use Rattle.bench.specs.Printing.{characters, writtenAt};
 
 // What is left of a text after its whole lines were run: the dock, the characters used, and the characters to be printed.
 struct Ran {
@@ -42,7 +43,7 @@ struct Turn {
 // Puts what a line prints at a place of the output, and gives the place behind it.
 fn put(out: &mut [u8], at: usize, printed: Printed) -> usize
     requires { ⌜ at + 4 ≤ length (now out) ⌝ }
-    ensures { λ r. ⌜ r ≤ at + 4 ⌝ }
+    ensures { λ r. ⌜ (r ≡ at + length (characters printed)) × (now (out .exit) ≡ writtenAt at (characters printed) (now (out .entry))) ⌝ }
 {
     match printed {
         Printed::Silence => at,

@@ -1,1 +1,1 @@
-// Runs of calls: a dock, the scans that it counted, and a terminal that reads its key bytes. See specs/ and proofs/.
+// Runs of calls: a dock, an onlooker who says which of its scans count, and a terminal that reads its key bytes. See specs/ and proofs/.

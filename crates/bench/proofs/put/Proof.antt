@@ -1,7 +1,9 @@
--- `bench::put` is safe: the places written stay inside the output, which four characters more fit. Assumes nothing.
+-- `bench::put` meets its contract: the places written stay inside the output, into which four characters more fit, and hold the digits of
+-- what is printed. Assumes nothing.
 use native.Mathlib.Omega.{arith}
 use borrow.Author.Needs.{needs}
 use lib.ListN.{length-set}
+use Rattle.bench.proofs.Prints.{puts-nothing, puts-frame, puts-refusal}
 use Rattle.bench.proofs.put.Statement.{statement}
 use Rattle.bench.proofs.put.Tie as tie
 
@@ -78,19 +80,21 @@ add-result-2 : tie.Need-add-result-2
 add-result-2 c = search needs
 
 returns : tie.Need-returns
-returns c = search needs
+returns c = puts-nothing _ _ _ (c .enum-told .given .1)
 
 same-length : tie.Need-same-length
 same-length c = search needs
 
 returns-2 : tie.Need-returns-2
-returns-2 c = search needs
+returns-2 c =
+    let known = c .before .before .before in
+    puts-frame _ _ _ _ _ _ _ (known .before .printed .given .1) (c .before .before .digit-of .ensures) (c .before .digit-of2 .ensures) (c .digit-of3 .ensures)
 
 same-length-2 : tie.Need-same-length-2
 same-length-2 c = search needs
 
 returns-3 : tie.Need-returns-3
-returns-3 c = search needs
+returns-3 c = puts-refusal _ _ _ _ _ (c .before .before .printed2 .given .1) (c .digit-of4 .ensures)
 
 pub put-spec : {M : Type 1} → statement M
 put-spec =

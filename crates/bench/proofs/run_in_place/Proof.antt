@@ -11,6 +11,7 @@ use Rattle.lines.proofs.Lengths.{stepped-lengths}
 use Rattle.record.specs.Apart.{dockWith}
 use Rattle.range.specs.Range.{inRange}
 use Rattle.text.proofs.Newlines.{line-end-after, line-end-within}
+use Rattle.bench.proofs.Prints.{few}
 use Rattle.bench.proofs.run_in_place.Statement.{statement}
 use Rattle.bench.proofs.run_in_place.Tie as tie
 
@@ -76,7 +77,7 @@ loop-again c =
     (x .last .0) (x .last .1 .0) (x .last .1 .1 .0) (x .last .1 .1 .1 .0) (x .last .1 .1 .1 .1 .0) (x .result) (x .ensures) (i .5) (i .6) in (
       omega (arith, c .end-of2 .ensures, line-end-after t (e + 1)),
       omega (arith, c .end-of2 .ensures, line-end-within t (e + 1) inside),
-      omega arith,
+      omega (arith, few (x .result .printed)),
       search needs,
       kept,
       sizes .0,
