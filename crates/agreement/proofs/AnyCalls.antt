@@ -35,7 +35,8 @@ use Rattle.agreement.proofs.Scanned.{scan-settled, scan-follows}
 use Rattle.agreement.proofs.Swapped.{swap-settled, swap-follows}
 use Rattle.agreement.proofs.Framed.{frame-settled, frame-follows}
 use Rattle.agreement.proofs.Taken.{read-settled, read-follows}
-use Rattle.agreement.proofs.Knowing.{Knows, scan-knows, swap-knows, frame-knows, read-knows, scan-stays, swap-stays, read-stays, frame-set}
+use Rattle.agreement.proofs.Staying.{scan-stays, swap-stays, read-stays}
+use Rattle.agreement.proofs.Knowing.{Knows, scan-knows, swap-knows, frame-knows, read-knows, frame-set}
 
 -- The dock is in its range and settled, and the onlooker knows what is so.
 pub record Sound (w : World) : Type 0 where

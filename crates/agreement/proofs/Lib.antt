@@ -4,6 +4,7 @@ pub mod Scanned
 pub mod Swapped
 pub mod Framed
 pub mod Taken
+pub mod Staying
 pub mod Knowing
 pub mod AnyCalls
 pub mod ThirdDemand

@@ -1,11 +1,10 @@
 // The bench (docs/RULES.md, section 12): lines from standard input go to a dock, and what it answers goes to standard output.
-// What a line does is proved in the crate lines; here text is read, cut into lines, and written. The dock's record is in range
-// at power-on, and every line leaves it in range: that is proved, so nothing looks at it again.
+// What a line does is proved in the crate lines, and which characters are printed for it in printing; here text is read, cut into lines,
+// and written. The dock's record is in range at power-on, and every line leaves it in range: that is proved, so nothing looks at it again.
 use contacts::Columns;
 use contacts::Counts;
 use libc::STDIN_FILENO;
 use libc::STDOUT_FILENO;
-use lines::Printed;
 use record::Dock;
 use record::Held;
 use record::Map;
@@ -13,11 +12,10 @@ use record::Rest;
 use record::Types;
 ghost use mathlib.Core.Path.{_≡_};
 ghost use mathlib.Core.Bool.{true};
-ghost use Prim.Native.Nat.{_≤_, _+_};
+ghost use Prim.Native.Nat.{_≤_};
 ghost use lib.ListN.{length};
 ghost use Rattle.record.specs.Apart.{dockWith};
 ghost use Rattle.range.specs.Range.{inRange};
-ghost use Rattle.bench.specs.Printing.{characters, writtenAt};
 
 // What is left of a text after its whole lines were run: the dock, the characters used, and the characters to be printed.
 struct Ran {
@@ -38,29 +36,6 @@ struct Turn {
     dock: Dock,
     kept: usize,
     going: bool,
-}
-
-// Puts what a line prints at a place of the output, and gives the place behind it.
-fn put(out: &mut [u8], at: usize, printed: Printed) -> usize
-    requires { ⌜ at + 4 ≤ length (now out) ⌝ }
-    ensures { λ r. ⌜ (r ≡ at + length (characters printed)) × (now (out .exit) ≡ writtenAt at (characters printed) (now (out .entry))) ⌝ }
-{
-    match printed {
-        Printed::Silence => at,
-        Printed::FrameLine(frame) => {
-            out[at] = digits::digit_of((frame / 256 % 16) as u8);
-            out[at + 1] = digits::digit_of((frame / 16 % 16) as u8);
-            out[at + 2] = digits::digit_of((frame % 16) as u8);
-            out[at + 3] = b'\n';
-            at + 4
-        }
-        Printed::RefusalLine(number) => {
-            out[at] = b'!';
-            out[at + 1] = digits::digit_of(number % 16);
-            out[at + 2] = b'\n';
-            at + 3
-        }
-    }
 }
 
 // Runs the whole lines of a text in place. Each takes at least its newline and prints at most four characters, so the output has room.
@@ -88,7 +63,7 @@ fn run_in_place(
         let stepped = lines::step_in_place(map, closed, counts, held, types, rest, &text[at..end]);
         let printed = stepped.printed;
         rest = stepped.rest;
-        written = put(out, written, printed);
+        written = printing::put(out, written, printed);
         at = end + 1;
         end = text::end_of(text, at);
     }

@@ -104,8 +104,8 @@ refusals =
     (Scan [] ∷ Swap [] ∷ Swap (replicate 144 (suc lastKey)) ∷ Swap (replicate 144 1) ∷ Frame 2048 ∷ scans 3 (showing 0 4) ++ reads 1)
     (agreeing (0x1e ∷ []) (3 ∷ []))
 
--- All of them.
+-- All of them, the long ones last.
 unfoldable pub stories : List Story
 stories =
-    limestone ∷ heldOn ∷ repeatEnded ∷ shiftedCursor ∷ shiftedCursorInSet1 ∷ longHandover ∷ secondSwap ∷ otherPanel
-    ∷ waitingCommand ∷ scanningOff ∷ phantomScans ∷ waitingReply ∷ thirdScan ∷ pauseStruck ∷ refusals ∷ []
+    limestone ∷ heldOn ∷ shiftedCursor ∷ shiftedCursorInSet1 ∷ otherPanel ∷ waitingCommand ∷ scanningOff ∷ phantomScans ∷ waitingReply
+    ∷ thirdScan ∷ pauseStruck ∷ refusals ∷ repeatEnded ∷ longHandover ∷ secondSwap ∷ []

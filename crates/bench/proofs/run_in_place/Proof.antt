@@ -11,7 +11,7 @@ use Rattle.lines.proofs.Lengths.{stepped-lengths}
 use Rattle.record.specs.Apart.{dockWith}
 use Rattle.range.specs.Range.{inRange}
 use Rattle.text.proofs.Newlines.{line-end-after, line-end-within}
-use Rattle.bench.proofs.Prints.{few}
+use Rattle.printing.proofs.Prints.{few}
 use Rattle.bench.proofs.run_in_place.Statement.{statement}
 use Rattle.bench.proofs.run_in_place.Tie as tie
 

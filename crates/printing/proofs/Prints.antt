@@ -7,7 +7,7 @@ use lib.ListN.{length, set}
 use Rattle.digits.specs.Digits.{digitOf}
 use Rattle.lines.specs.declared.Printed.{Printed}
 use Rattle.lines.specs.declared.Printed.the-variants.{Silence, FrameLine, RefusalLine}
-use Rattle.bench.specs.Printing.{characters, writtenAt}
+use Rattle.printing.specs.Printing.{characters, writtenAt}
 
 -- At most four characters are printed.
 pub few : (printed : Printed) → length (characters printed) ≤ 4

@@ -1,11 +1,11 @@
--- `bench::put` meets its contract: the places written stay inside the output, into which four characters more fit, and hold the digits of
+-- `printing::put` meets its contract: the places written stay inside the output, into which four characters more fit, and hold the digits of
 -- what is printed. Assumes nothing.
 use native.Mathlib.Omega.{arith}
 use borrow.Author.Needs.{needs}
 use lib.ListN.{length-set}
-use Rattle.bench.proofs.Prints.{puts-nothing, puts-frame, puts-refusal}
-use Rattle.bench.proofs.put.Statement.{statement}
-use Rattle.bench.proofs.put.Tie as tie
+use Rattle.printing.proofs.Prints.{puts-nothing, puts-frame, puts-refusal}
+use Rattle.printing.proofs.put.Statement.{statement}
+use Rattle.printing.proofs.put.Tie as tie
 
 enum-told : tie.Need-enum-told
 enum-told c = search needs
