@@ -24,41 +24,41 @@ fn right_wrap(set: u8) -> u16
 }
 
 // What a form sends before a make.
-pub(crate) fn with_before(s: Sequence, set: u8, form: Form) -> Sequence
-    requires { ⌜ s .length ≤ 2 ⌝ }
-    ensures { λ r. ⌜ r ≡ adding s (before set form) ⌝ }
+pub(crate) fn with_before(sequence: Sequence, set: u8, form: Form) -> Sequence
+    requires { ⌜ sequence .length ≤ 2 ⌝ }
+    ensures { λ r. ⌜ r ≡ adding sequence (before set form) ⌝ }
 {
     let left = left_wrap(set);
     let right = right_wrap(set);
     match form {
-        Form::Plain => s,
-        Form::ShiftLeft => with_break(s, set, left),
-        Form::ShiftRight => with_break(s, set, right),
+        Form::Plain => sequence,
+        Form::ShiftLeft => with_break(sequence, set, left),
+        Form::ShiftRight => with_break(sequence, set, right),
         Form::ShiftBoth => {
-            let first = with_break(s, set, left);
+            let first = with_break(sequence, set, left);
             with_break(first, set, right)
         }
-        Form::NumLock => with_make(s, left),
-        Form::Other => s,
+        Form::NumLock => with_make(sequence, left),
+        Form::Other => sequence,
     }
 }
 
 // What a form sends after a break.
-pub(crate) fn with_after(s: Sequence, set: u8, form: Form) -> Sequence
-    requires { ⌜ s .length ≤ 4 ⌝ }
-    ensures { λ r. ⌜ r ≡ adding s (after set form) ⌝ }
+pub(crate) fn with_after(sequence: Sequence, set: u8, form: Form) -> Sequence
+    requires { ⌜ sequence .length ≤ 4 ⌝ }
+    ensures { λ r. ⌜ r ≡ adding sequence (after set form) ⌝ }
 {
     let left = left_wrap(set);
     let right = right_wrap(set);
     match form {
-        Form::Plain => s,
-        Form::ShiftLeft => with_make(s, left),
-        Form::ShiftRight => with_make(s, right),
+        Form::Plain => sequence,
+        Form::ShiftLeft => with_make(sequence, left),
+        Form::ShiftRight => with_make(sequence, right),
         Form::ShiftBoth => {
-            let first = with_make(s, right);
+            let first = with_make(sequence, right);
             with_make(first, left)
         }
-        Form::NumLock => with_break(s, set, left),
-        Form::Other => s,
+        Form::NumLock => with_break(sequence, set, left),
+        Form::Other => sequence,
     }
 }
