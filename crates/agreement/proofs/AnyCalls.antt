@@ -1,6 +1,6 @@
 -- Any calls, one after the other: what is true of the dock stays true, and a terminal that nothing disturbs goes on following. Assumes
 -- nothing.
-use mathlib.Core.Path.{_≡_, refl, ap, _∙_}
+use mathlib.Core.Path.{_≡_, refl, sym, ap, _∙_}
 use mathlib.Core.Logic.{inl}
 use mathlib.Core.Bool.{Bool, true, false, not}
 use mathlib.Core.List.{List, [], _∷_}
@@ -10,7 +10,7 @@ use lib.Dec.{eqb}
 use lib.ListN.{length}
 use Rattle.basics.specs.Choice.{pick, both, either}
 use Rattle.basics.specs.Lists.{allUpTo}
-use Rattle.basics.proofs.Flags.{left-of-both, right-of-both}
+use Rattle.basics.proofs.Flags.{left-of-both, right-of-both, both-false}
 use Rattle.dock.proofs.InRange.{scan-in-range, read-in-range, swap-in-range, frame-in-range}
 use Rattle.dock.specs.Scan.{listening, isCounted}
 use Rattle.dock.specs.Swap.{swapOf}
@@ -68,11 +68,21 @@ woken-sound =
 pub begun-sound : (w : World) → Sound w → Sound (beginning w)
 begun-sound w s = record { range = s .range; settled = s .settled; knows = s .knows }
 
+-- Where a swap is unfinished no scan has been counted since.
+still-open : (d : Dock) (scans : List (List ℕ)) → Settled d scans → d .handover ≡ both (eqb (length scans) 0) (d .handover)
+still-open d scans s = go (d .handover) (s .ready .anew)
+  where
+    go : (unfinished : Bool) → (unfinished ≡ true → scans ≡ []) → unfinished ≡ both (eqb (length scans) 0) unfinished
+    go true none = rw (none refl)
+    go false none = sym (both-false (eqb (length scans) 0))
+
 -- The dock counts the scans that the onlooker counts.
-same-count : (d : Dock) (o : Onlooker) → Knows d o → (scan : List ℕ)
-    → both (eqb (length scan) 18) (isCounted d scan) ≡ isCountedBy o (d .handover) scan
+same-count : (w : World) → Sound w → (scan : List ℕ)
+    → both (eqb (length scan) 18) (isCounted (w .dock) scan) ≡ isCountedBy (w .onlooker) (w .dock .handover) scan
 unfolding isCounted listening isCountedBy
-same-count d o k scan = rw (k .1, k .2)
+same-count w s scan =
+    let k = s .knows in
+    rw (k .1, k .2, ← still-open (w .dock) (w .onlooker .scans) (s .settled))
 
 -- One call.
 next-sound : (w : World) (call : Call) → Sound w → Sound (next w call)
@@ -80,7 +90,7 @@ unfolding next sawScan sawSwap
 next-sound w (Scan scan) s =
     record {
       range = scan-in-range (w .dock) scan (s .range);
-      settled = rw (← same-count (w .dock) (w .onlooker) (s .knows) scan)
+      settled = rw (← same-count w s scan)
           (scan-settled (w .dock) (w .onlooker .scans) scan (s .range) (s .settled));
       knows = scan-knows (w .dock) (w .onlooker) (s .knows) (s .range) scan;
     }
@@ -109,29 +119,29 @@ next-sound w Read s =
     }
 
 -- The terminal follows, and reads by the set that the dock sends in.
-pub record Reads (w : World) : Type 0 where
+pub record InStep (w : World) : Type 0 where
   pub follows : Follows (w .dock) (w .terminal)
   pub same : w .dock .mode .set ≡ w .set
 
-next-reads : (w : World) (call : Call) → Sound w → either (isClearingCall call) (overrunsIn (w .dock) call) ≡ false → Reads w → Reads (next w call)
+next-in-step : (w : World) (call : Call) → Sound w → either (isClearingCall call) (overrunsIn (w .dock) call) ≡ false → InStep w → InStep (next w call)
 unfolding next
-next-reads w (Scan scan) s calm f =
+next-in-step w (Scan scan) s calm f =
     record {
       follows = scan-follows (w .terminal) (w .dock) (w .onlooker .scans) scan (s .settled) (f .follows) (s .range) calm;
       same = ap (λ (m : Mode). m .set) (scan-stays (w .dock) scan .3) ∙ f .same;
     }
-next-reads w (Swap map) s calm f =
+next-in-step w (Swap map) s calm f =
     record {
       follows = swap-follows (w .dock) (w .terminal) map (f .follows) (s .range);
       same = ap (λ (m : Mode). m .set) (swap-stays (w .dock) map (s .range) .3) ∙ f .same;
     }
-next-reads w (Frame number) s calm f =
+next-in-step w (Frame number) s calm f =
     let mild = neither-first (isClearingCall (Frame number)) false calm in
     record {
       follows = frame-follows (w .dock) (w .terminal) number (s .range) mild (f .follows);
       same = frame-set (w .dock) number (s .range) mild (f .follows .firm) ∙ f .same;
     }
-next-reads w Read s calm f =
+next-in-step w Read s calm f =
     record {
       follows = rw (← f .same) (read-follows (w .dock) (w .onlooker .scans) (w .terminal) (s .range) (s .settled) (f .follows));
       same = ap (λ (m : Mode). m .set) (read-stays (w .dock) .3) ∙ f .same;
@@ -143,11 +153,11 @@ unfolding afterCalls
 any-sound [] w s = s
 any-sound (call ∷ calls) w s = any-sound calls (next w call) (next-sound w call s)
 
-pub any-reads : (calls : List Call) (w : World) → Sound w → undisturbed w calls ≡ true → Reads w → Reads (afterCalls w calls)
+pub any-in-step : (calls : List Call) (w : World) → Sound w → undisturbed w calls ≡ true → InStep w → InStep (afterCalls w calls)
 unfolding afterCalls undisturbed
-any-reads [] w s calm f = f
-any-reads (call ∷ calls) w s calm f =
+any-in-step [] w s calm f = f
+any-in-step (call ∷ calls) w s calm f =
     let disturbs = either (isClearingCall call) (overrunsIn (w .dock) call) in
     let later = undisturbed (next w call) calls in
-    any-reads calls (next w call) (next-sound w call s) (right-of-both (not disturbs) later calm)
-    (next-reads w call s (not-true disturbs (left-of-both (not disturbs) later calm)) f)
+    any-in-step calls (next w call) (next-sound w call s) (right-of-both (not disturbs) later calm)
+    (next-in-step w call s (not-true disturbs (left-of-both (not disturbs) later calm)) f)

@@ -35,7 +35,7 @@ use Rattle.telling.proofs.Told.{told-empty, empty-told}
 use Rattle.terminal.specs.Terminals.{Terminal, terminal, begun, isDown}
 use Rattle.agreement.proofs.Ready.{IsReady}
 use Rattle.agreement.proofs.Following.{Follows}
-use Rattle.agreement.proofs.AnyCalls.{Sound, woken-sound, begun-sound, any-sound, Reads, any-reads}
+use Rattle.agreement.proofs.AnyCalls.{Sound, woken-sound, begun-sound, any-sound, InStep, any-in-step}
 use Rattle.agreement.proofs.Ending.{quiet-empty, quiet-shut}
 
 one-or-two : (n : ℕ) → between 1 2 n ≡ true → (n ≡ 1) ⊎ (n ≡ 2)
@@ -110,8 +110,8 @@ module _ (earlier calls : List Call) (begins : mayBegin (afterCalls woken earlie
       let reached = any-sound earlier woken woken-sound in
       let begins-sound = begun-sound (afterCalls woken earlier) reached in
       let sound = any-sound calls start begins-sound in
-      let begun-reads : Reads start = record { follows = begin-follows (afterCalls woken earlier) reached begins; same = refl } in
-      let follows = any-reads calls start begins-sound calm begun-reads .follows in
+      let begun-in-step : InStep start = record { follows = begin-follows (afterCalls woken earlier) reached begins; same = refl } in
+      let follows = any-in-step calls start begins-sound calm begun-in-step .follows in
       let d = end .dock in
       let read = told-empty (d .mode .set) (end .terminal) (d .keys) (quiet-empty d nothing) (follows .told) in
       let flag = ap (λ (t : Terminal). getD (t .down) key 0) read ∙ getD-set-other (d .keys .held) 101 key 0 0 other in

@@ -2,4 +2,4 @@
 // nothing clears the queue and it does not overrun. See proofs/; the words are in crates/runs/specs. What is true after every call is
 // built in steps: Ready (map, contacts and held keys fit the scans), Settled (and an open handover leaves more than half the queue
 // waiting), Sound (and the record is in its range, and what the onlooker knows is so), Steady (and the replies have their places).
-// Follows is what is true of the terminal, Reads that it reads by the dock's set, too.
+// Follows is what is true of the terminal, InStep that it reads by the dock's set, too.

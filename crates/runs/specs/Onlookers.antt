@@ -32,10 +32,12 @@ unfoldable pub atPowerOn : Onlooker
 atPowerOn = onlooker plainMap true 0 []
 
 -- A scan is counted if it has 18 bytes, scanning is on, no command waits for its value, no swap is unfinished, and it is not phantom. Only
--- whether a swap is unfinished has to be asked of the dock: that is a matter of its queue.
+-- whether a swap is unfinished has to be asked of the dock, since that is a matter of its queue; and once a scan was counted, the dock is
+-- not believed that it is.
 unfoldable pub isCountedBy : Onlooker → Bool → List ℕ → Bool
 isCountedBy o unfinished scan =
-    both (eqb (length scan) 18) (both (both (o .scanning) (both (eqb (o .waiting) 0) (not unfinished))) (not (isPhantom scan)))
+    let openSwap = both (eqb (length (o .scans)) 0) unfinished in
+    both (eqb (length scan) 18) (both (both (o .scanning) (both (eqb (o .waiting) 0) (not openSwap))) (not (isPhantom scan)))
 
 -- A scan: it joins the others if it is counted.
 unfoldable pub sawScan : Bool → List ℕ → Onlooker → Onlooker
