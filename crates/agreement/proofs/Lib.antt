@@ -15,4 +15,3 @@ pub mod AfterReads
 pub mod Queuing
 pub mod Queue
 pub mod Clearing
-pub mod Numbers

@@ -13,15 +13,16 @@ use scan::scan_in_place;
 use swap::swap_in_place;
 use wire::frame::frame_in_place;
 use wire::read::read_in_place;
-ghost use mathlib.Core.Path.{_≡_};
-ghost use Rattle.dock.specs.Scan.{scanOf};
-ghost use Rattle.dock.specs.Read.{readOf};
-ghost use Rattle.dock.specs.Swap.{swapOf};
-ghost use Rattle.dock.specs.Frame.{frameOf};
+ghost use Rattle.basics.specs.Said.{Answers};
+ghost use Rattle.dock.specs.Answers.{answeredSays, takenSays};
+ghost use Rattle.dock.specs.Scan.{scanOf, scanSaid};
+ghost use Rattle.dock.specs.Read.{readOf, readSaid};
+ghost use Rattle.dock.specs.Swap.{swapOf, swapSaid};
+ghost use Rattle.dock.specs.Frame.{frameOf, frameSaid};
 
 // The scan call: a record out of its range is refused first.
 pub fn scan(dock: Dock, scan: &[u8]) -> Answered
-    ensures { λ r. ⌜ r ≡ scanOf dock (now (scan .entry)) ⌝ }
+    ensures { λ r. ⌜ Answers answeredSays r (scanOf dock (now (scan .entry))) (scanSaid dock (now (scan .entry))) ⌝ }
 {
     if !in_range(dock) {
         return Answered {
@@ -56,7 +57,7 @@ pub fn scan(dock: Dock, scan: &[u8]) -> Answered
 
 // The read call: a record out of its range is refused.
 pub fn read(dock: Dock) -> Taken
-    ensures { λ r. ⌜ r ≡ readOf dock ⌝ }
+    ensures { λ r. ⌜ Answers takenSays r (readOf dock) (readSaid dock) ⌝ }
 {
     if !in_range(dock) {
         return Taken {
@@ -83,7 +84,7 @@ pub fn read(dock: Dock) -> Taken
 
 // The swap call: a record out of its range is refused first.
 pub fn swap(dock: Dock, new: &[u8]) -> Answered
-    ensures { λ r. ⌜ r ≡ swapOf dock (now (new .entry)) ⌝ }
+    ensures { λ r. ⌜ Answers answeredSays r (swapOf dock (now (new .entry))) (swapSaid dock (now (new .entry))) ⌝ }
 {
     if !in_range(dock) {
         return Answered {
@@ -118,7 +119,7 @@ pub fn swap(dock: Dock, new: &[u8]) -> Answered
 
 // The frame call: a record out of its range is refused first.
 pub fn frame(dock: Dock, number: u32) -> Answered
-    ensures { λ r. ⌜ r ≡ frameOf dock number ⌝ }
+    ensures { λ r. ⌜ Answers answeredSays r (frameOf dock number) (frameSaid dock number) ⌝ }
 {
     if !in_range(dock) {
         return Answered {

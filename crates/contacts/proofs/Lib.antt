@@ -3,3 +3,4 @@ pub mod Pointwise
 pub mod Renewals
 pub mod Columns
 pub mod Passes
+pub mod Once

@@ -7,3 +7,5 @@ pub mod Framing
 pub mod Resting
 pub mod Sizes
 pub mod Refusals
+pub mod Saying
+pub mod Once

@@ -17,9 +17,10 @@ use Rattle.record.specs.declared.Dock.{Dock}
 use Rattle.range.specs.Range.{inRange}
 use Rattle.dock.specs.declared.Answer.the-variants.{Accepted}
 use Rattle.dock.specs.declared.Answered.{Answered}
+use Rattle.dock.specs.declared.Given.{Given}
 use Rattle.dock.specs.declared.Given.the-variants.{Refused}
 use Rattle.dock.specs.declared.Taken.{Taken}
-use Rattle.dock.specs.Answers.{isAccepted, readNumberOf, answered}
+use Rattle.dock.specs.Answers.{isAccepted, givenSays, takenSays, answered}
 use Rattle.dock.specs.Scan.{scanOf}
 use Rattle.dock.specs.Swap.{swapOf}
 use Rattle.dock.specs.Frame.{tookFrame, frameOf}
@@ -61,15 +62,15 @@ module _ (d : Dock) where
       go TooLarge = λ refused. refl
 
   -- A read that is not refused gives a byte or nothing, and its number is 0.
-  pub read-accepted : readNumberOf (read d .given) ≡ 0
+  read-accepted : takenSays (read d) .number ≡ 0
   unfolding read replyTaken keyByteTaken
   read-accepted =
-      let Fine : Taken → Type 0 = λ (t : Taken). readNumberOf (t .given) ≡ 0 in
+      let Fine : Taken → Type 0 = λ (t : Taken). takenSays t .number ≡ 0 in
       picked Fine (eqb (d .replies .length) 0) _ _ (picked Fine (eqb (d .keys .queue .length) 0) _ _ refl refl) refl
 
   pub read-refused : readOf d .given ≡ Refused → readOf d .dock ≡ d
   unfolding readOf
   read-refused =
       picked (λ (t : Taken). t .given ≡ Refused → t .dock ≡ d) (inRange d) _ _
-      (λ refused. absurd (omega (arith, read-accepted, ap readNumberOf refused)))
+      (λ refused. absurd (omega (arith, read-accepted, ap (λ (given : Given). givenSays given .number) refused)))
       (λ refused. refl)

@@ -1,7 +1,9 @@
 -- A frame from the host (docs/RULES.md, sections 2 and 11). Assumes nothing.
 use Prim.Native.Nat.{ℕ}
 use mathlib.Core.List.{[], _∷_}
+use lib.Dec.{ltb}
 use Rattle.basics.specs.Choice.{pick}
+use Rattle.basics.specs.Said.{Said, accepted, refused}
 use Rattle.frames.specs.declared.Unpacked.{Unpacked}
 use Rattle.frames.specs.declared.Unpacked.the-variants.{Byte, Broken, TooLarge}
 use Rattle.frames.specs.Frames.{unpackedOf}
@@ -23,3 +25,7 @@ tookFrame TooLarge d = answered FrameNumber d
 -- The frame call: the record first, then a number over 2047.
 unfoldable pub frameOf : Dock → ℕ → Answered
 frameOf d number = pick (inRange d) (tookFrame (unpackedOf number) d) (answered BadRecord d)
+
+-- What is said of it, by the table: a broken frame is accepted like a whole one.
+unfoldable pub frameSaid : Dock → ℕ → Said
+frameSaid d number = pick (inRange d) (pick (ltb 2047 number) (refused 5) (accepted [])) (refused 9)

@@ -1,8 +1,10 @@
 -- A read (docs/RULES.md, section 7). Assumes nothing.
 use Prim.Native.Nat.{ℕ}
+use mathlib.Core.List.{[], _∷_}
 use lib.Dec.{eqb}
 use lib.ListN.{getD, drop}
 use Rattle.basics.specs.Choice.{pick}
+use Rattle.basics.specs.Said.{Said, accepted, refused}
 use Rattle.queue.specs.declared.Queue.{Queue}
 use Rattle.replies.specs.declared.Replies.{Replies}
 use Rattle.queue.specs.Queues.{waiting, queueOf}
@@ -12,7 +14,7 @@ use Rattle.record.specs.Parts.{withKeys, withReplies, withGiven, withQueue}
 use Rattle.range.specs.Range.{inRange}
 use Rattle.dock.specs.declared.Given.the-variants.{Nothing, Reply, KeyByte, Refused}
 use Rattle.dock.specs.declared.Taken.{Taken}
-use Rattle.dock.specs.Answers.{taken}
+use Rattle.dock.specs.Answers.{aReply, aKeyByte, taken}
 use Rattle.dock.specs.Closing.{closing}
 
 -- The oldest byte of a queue, and the queue without it.
@@ -55,3 +57,13 @@ read d =
 -- The read call: only a record out of its range is refused.
 unfoldable pub readOf : Dock → Taken
 readOf d = pick (inRange d) (read d) (taken Refused d)
+
+-- What is said of it, by the table: the oldest reply, else the oldest key byte, else neither.
+unfoldable pub readSaid : Dock → Said
+readSaid d =
+    pick (inRange d)
+    (accepted
+    (pick (eqb (d .replies .length) 0)
+    (pick (eqb (d .keys .queue .length) 0) [] (aKeyByte ∷ oldest (d .keys .queue) ∷ []))
+    (aReply ∷ oldestReply (d .replies) ∷ [])))
+    (refused 9)

@@ -1,10 +1,11 @@
 -- A scan (docs/RULES.md, sections 5 and 6). Assumes nothing.
 use mathlib.Core.Bool.{Bool, not}
-use mathlib.Core.List.{List}
+use mathlib.Core.List.{List, []}
 use Prim.Native.Nat.{ℕ}
 use lib.Dec.{eqb}
 use lib.ListN.{length}
 use Rattle.basics.specs.Choice.{pick, both}
+use Rattle.basics.specs.Said.{Said, accepted, refused}
 use Rattle.phantom.specs.Phantom.{isPhantom}
 use Rattle.contacts.specs.Counts.{countedOf}
 use Rattle.keying.specs.Moves.{turnsTo}
@@ -58,3 +59,7 @@ scanOf d scan =
     pick (inRange d)
     (pick (eqb (length scan) 18) (answered Accepted (scanned d scan)) (answered ScanLength d))
     (answered BadRecord d)
+
+-- What is said of it, by the table.
+unfoldable pub scanSaid : Dock → List ℕ → Said
+scanSaid d scan = pick (inRange d) (pick (eqb (length scan) 18) (accepted []) (refused 1)) (refused 9)

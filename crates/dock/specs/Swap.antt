@@ -1,10 +1,11 @@
 -- A panel swap (docs/RULES.md, section 8). Assumes nothing.
 use mathlib.Core.Bool.{true}
-use mathlib.Core.List.{List}
+use mathlib.Core.List.{List, []}
 use Prim.Native.Nat.{ℕ}
 use lib.Dec.{eqb}
 use lib.ListN.{length}
 use Rattle.basics.specs.Choice.{pick}
+use Rattle.basics.specs.Said.{Said, accepted, refused}
 use Rattle.basics.specs.Lists.{allUpTo}
 use Rattle.keys.specs.Keys.{lastKey}
 use Rattle.contacts.specs.Counts.{unseen}
@@ -39,3 +40,14 @@ swapOf d map =
     (answered MapEntry d))
     (answered MapLength d))
     (answered BadRecord d)
+
+-- What is said of it, by the table.
+unfoldable pub swapSaid : Dock → List ℕ → Said
+swapSaid d map =
+    pick (inRange d)
+    (pick (eqb (length map) 144)
+    (pick (allUpTo lastKey map)
+    (pick (hasDouble map) (refused 4) (accepted []))
+    (refused 3))
+    (refused 2))
+    (refused 9)

@@ -12,7 +12,7 @@ use Rattle.keys.specs.Keys.{lastKey}
 use Rattle.encoder.specs.declared.Encoded.the-variants.{Written, BadChoice, ShortOutput}
 use Rattle.codes.specs.declared.Sequence.{Sequence}
 use Rattle.codes.specs.Sequences.{holding}
-use Rattle.encoder.specs.Encoder.{allowed, asked, over, writtenTo, encodedOf, outputOf, Encodes}
+use Rattle.encoder.specs.Encoder.{allowed, asked, over, writtenTo, encodedOf, encodedSaid, outputOf, Encodes}
 use Rattle.codes.proofs.Adding.{holding-length, holding-bytes}
 use Rattle.codes.proofs.Answers.{passed, refused}
 
@@ -41,19 +41,24 @@ module _ (set key event type modifiers lock : ℕ) (a : Bool) (e : a ≡ allowed
 
   module _ (out : List ℕ) where
     pub bad-choice : not a ≡ true → Encodes set key event type modifiers lock out BadChoice out
-    unfolding encodedOf outputOf
-    bad-choice n = record { answer = rw (refused e n); output = rw (refused e n) }
+    unfolding encodedOf encodedSaid outputOf
+    bad-choice n = record { answer = rw (refused e n); said = rw (refused e n); output = rw (refused e n) }
 
     module _ (p : not a ≡ false) where
       pub short-output : length out < 8 → Encodes set key event type modifiers lock out ShortOutput out
-      unfolding encodedOf outputOf
-      short-output h = record { answer = rw (passed e p, lt-ltb _ _ h); output = rw (passed e p, lt-ltb _ _ h) }
+      unfolding encodedOf encodedSaid outputOf
+      short-output h = record {
+        answer = rw (passed e p, lt-ltb _ _ h);
+        said = rw (passed e p, lt-ltb _ _ h);
+        output = rw (passed e p, lt-ltb _ _ h);
+      }
 
       pub written : (s : Sequence) (out′ : List ℕ) → 8 ≤ length out
           → s ≡ holding (asked set key event type modifiers lock) → out′ ≡ writtenTo s out
           → Encodes set key event type modifiers lock out (Written (s .length)) out′
-      unfolding encodedOf outputOf
+      unfolding encodedOf encodedSaid outputOf
       written s out′ h d w = record {
         answer = rw (passed e p, le-ltb _ _ h, d, holding-length (asked set key event type modifiers lock));
+        said = rw (passed e p, le-ltb _ _ h, d, holding-length (asked set key event type modifiers lock));
         output = rw (passed e p, le-ltb _ _ h, w, d) (holding-written (asked set key event type modifiers lock) out);
       }

@@ -2,10 +2,11 @@
 use Prim.Native.Nat.{ℕ}
 use mathlib.Core.Path.{_≡_}
 use mathlib.Core.Bool.{Bool}
-use mathlib.Core.List.{List, _++_}
+use mathlib.Core.List.{List, [], _∷_, _++_}
 use lib.Dec.{eqb, ltb, leb}
 use lib.ListN.{length, take, drop}
 use Rattle.basics.specs.Choice.{pick, both, between}
+use Rattle.basics.specs.Said.{Said, accepted, refused}
 use Rattle.keys.specs.Keys.{lastKey}
 use Rattle.codes.specs.declared.Action.{Action}
 use Rattle.codes.specs.declared.Action.the-variants.{Press, Release, Repeat}
@@ -53,13 +54,21 @@ outputOf set key event type modifiers lock out =
 abbrev pub writtenTo : Sequence → List ℕ → List ℕ
 writtenTo s out = take (s .length) (s .bytes) ++ drop (s .length) out
 
--- What the encoder promises, refused or not: the answer, and all of the lent output.
+-- What each answer says (docs/RULES.md, section 9): an accepted one has how many bytes were written.
+abbrev pub encodedSays : Encoded → Said
+encodedSays (Written count) = accepted (count ∷ [])
+encodedSays ShortOutput = refused 6
+encodedSays BadChoice = refused 7
+
+-- What is said of these numbers and this output, by the table.
+unfoldable pub encodedSaid : ℕ → ℕ → ℕ → ℕ → ℕ → ℕ → List ℕ → Said
+encodedSaid set key event type modifiers lock out =
+    pick (allowed set key event type modifiers lock)
+    (pick (ltb (length out) 8) (refused 6) (accepted (length (asked set key event type modifiers lock) ∷ [])))
+    (refused 7)
+
+-- What the encoder promises, refused or not: the answer, what it says, and all of the lent output.
 pub record Encodes (set key event type modifiers lock : ℕ) (out : List ℕ) (r : Encoded) (out′ : List ℕ) : Type 0 where
   pub answer : r ≡ encodedOf set key event type modifiers lock out
+  pub said : encodedSays r ≡ encodedSaid set key event type modifiers lock out
   pub output : out′ ≡ outputOf set key event type modifiers lock out
-
--- The number that is given back (docs/RULES.md, section 9).
-abbrev pub numberOf : Encoded → ℕ
-numberOf (Written count) = 0
-numberOf ShortOutput = 6
-numberOf BadChoice = 7

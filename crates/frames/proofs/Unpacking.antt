@@ -1,13 +1,17 @@
 -- What unpacking answers, by what the code sees through its masks: one law for each of its answers. Assumes nothing.
-use mathlib.Core.Path.{_≡_}
+use mathlib.Core.Path.{_≡_, refl}
+use mathlib.Core.List.{List}
 use Prim.Native.Nat.{ℕ, _/_, _≤_, _<_}
 use native.Mathlib.Omega.{arith}
 use lib.Dec.{eqb, ltb}
 use lib.Bits.{bitAnd, and-mask}
 use borrow.Author.Tests.{lt-ltb, le-ltb, eq-eqb, ne-eqb}
 use Rattle.basics.specs.Choice.{pick, both}
+use Rattle.basics.specs.Said.{Said, accepted}
+use Rattle.basics.proofs.Cases.{two-by-cases}
+use Rattle.frames.specs.declared.Unpacked.{Unpacked}
 use Rattle.frames.specs.declared.Unpacked.the-variants.{Byte, Broken, TooLarge}
-use Rattle.frames.specs.Frames.{parity, whole, unpackedOf}
+use Rattle.frames.specs.Frames.{parity, whole, unpackedOf, unpackedSays, unpackedSaid}
 
 -- The definition with masks for its remainders.
 by-masks : (n : ℕ) → unpackedOf n ≡
@@ -36,3 +40,11 @@ module _ (n : ℕ) (small : n ≤ 2047) where
 
       pub all-right : bitAnd (n / 1024) 1 ≡ 1 → Byte (bitAnd (n / 2) 255) ≡ unpackedOf n
       all-right e = rw (by-masks n, ← odd) (simp (le-ltb _ _ small, eq-eqb _ _ start, eq-eqb _ _ same, eq-eqb _ _ e))
+
+-- What unpacking says is what the table has of the number.
+pub unpacking-says : (n : ℕ) → unpackedSays (unpackedOf n) ≡ unpackedSaid n
+unfolding unpackedOf unpackedSaid
+unpacking-says n =
+    let Says : Unpacked → Said → Type 0 = λ (u : Unpacked) (said : Said). unpackedSays u ≡ said in
+    two-by-cases Says (ltb 2047 n) _ _ _ _ (λ large. refl)
+    (λ fits. two-by-cases (λ (u : Unpacked) (values : List ℕ). Says u (accepted values)) (whole n) _ _ _ _ (λ right. refl) (λ broken. refl))

@@ -1,9 +1,11 @@
 -- Frames as numbers (docs/RULES.md, section 2). Assumes nothing.
 use Prim.Native.Nat.{ℕ, _+_, _*_, _/_, _%_, _^_}
 use mathlib.Core.Bool.{Bool}
+use mathlib.Core.List.{[], _∷_}
 use lib.Dec.{eqb, ltb}
 use lib.Count.{ones}
 use Rattle.basics.specs.Choice.{pick, both}
+use Rattle.basics.specs.Said.{Said, accepted, refused}
 use Rattle.frames.specs.declared.Unpacked.{Unpacked}
 use Rattle.frames.specs.declared.Unpacked.the-variants.{Byte, Broken, TooLarge}
 
@@ -31,8 +33,12 @@ whole n = both (eqb (bit n 0) 0) (both (eqb (bit n 9) (parity (byteOf n))) (eqb 
 unfoldable pub unpackedOf : ℕ → Unpacked
 unpackedOf n = pick (ltb 2047 n) TooLarge (pick (whole n) (Byte (byteOf n)) Broken)
 
--- The number that is given back: 5 for a number over 2047, and otherwise 0 (docs/RULES.md, section 9).
-abbrev pub numberOf : Unpacked → ℕ
-numberOf (Byte b) = 0
-numberOf Broken = 0
-numberOf TooLarge = 5
+-- What each answer says (docs/RULES.md, section 9): a whole frame has its byte, a broken one has none.
+abbrev pub unpackedSays : Unpacked → Said
+unpackedSays (Byte byte) = accepted (byte ∷ [])
+unpackedSays Broken = accepted []
+unpackedSays TooLarge = refused 5
+
+-- What is said of a number, by the table.
+unfoldable pub unpackedSaid : ℕ → Said
+unpackedSaid n = pick (ltb 2047 n) (refused 5) (accepted (pick (whole n) (byteOf n ∷ []) []))

@@ -1,6 +1,7 @@
 // Frames (docs/RULES.md, section 2): the eleven bits in which a byte goes over the wire, as a number.
 ghost use mathlib.Core.Path.{_≡_};
-ghost use Rattle.frames.specs.Frames.{parity, packedOf, unpackedOf};
+ghost use Rattle.basics.specs.Said.{Answers};
+ghost use Rattle.frames.specs.Frames.{parity, packedOf, unpackedOf, unpackedSays, unpackedSaid};
 
 // What unpacking a number finds.
 pub enum Unpacked {
@@ -28,7 +29,7 @@ pub fn pack(byte: u8) -> u16
 
 // The byte of a frame, if the number is a frame and the frame is whole.
 pub fn unpack(frame: u32) -> Unpacked
-    ensures { λ r. ⌜ r ≡ unpackedOf frame ⌝ }
+    ensures { λ r. ⌜ Answers unpackedSays r (unpackedOf frame) (unpackedSaid frame) ⌝ }
 {
     if 2047 < frame {
         return Unpacked::TooLarge;

@@ -20,7 +20,7 @@ use Rattle.codes.proofs.Lengths.{encode-short}
 use Rattle.reader.specs.declared.Event.{Event}
 use Rattle.reader.specs.declared.Event.the-variants.{More, Pressed, Released, PauseStruck, Wrapping, Overrun, Unknown, BadState, BadSet}
 use Rattle.reader.specs.declared.Answer.{Answer}
-use Rattle.reader.specs.Reader.{readByte, answerOf, numberOf}
+use Rattle.reader.specs.Reader.{readByte, answerOf, eventSays}
 use Rattle.roundtrip.proofs.OnlyItsOwn.{next-is-a-state}
 use Rattle.keydock.specs.Numbers.{minus, encodedNumber, eventNumber, keyOf, answerNumber}
 
@@ -64,7 +64,7 @@ event-small BadState = omega arith
 event-small BadSet = omega arith
 
 -- The state that an accepted byte leaves is one of the fifteen.
-next-small : (set state byte : ℕ) → byte < 256 → numberOf (answerOf set state byte .event) ≡ 0 → answerOf set state byte .state ≤ 14
+next-small : (set state byte : ℕ) → byte < 256 → eventSays (answerOf set state byte .event) .number ≡ 0 → answerOf set state byte .state ≤ 14
 unfolding answerOf
 next-small set state byte b e = go (leb state 14) refl (leb 1 set) refl (leb set 3) refl e
   where
@@ -72,7 +72,7 @@ next-small set state byte b e = go (leb state 14) refl (leb 1 set) refl (leb set
     answer x y z = pick x (pick (both y z) (readByte set state byte) (record { state = state; event = BadSet })) (record { state = state; event = BadState })
 
     go : (x : Bool) → leb state 14 ≡ x → (y : Bool) → leb 1 set ≡ y → (z : Bool) → leb set 3 ≡ z
-        → numberOf (answer x y z .event) ≡ 0 → answer x y z .state ≤ 14
+        → eventSays (answer x y z .event) .number ≡ 0 → answer x y z .state ≤ 14
     go true p true q true r n = next-is-a-state set state byte (leb-true 1 set q) (leb-true set 3 r) (leb-true state 14 p) b
     go true p true q false r n = let w : _≡_ {A = ℕ} 7 0 = n in omega arith
     go true p false q z r n = let w : _≡_ {A = ℕ} 7 0 = n in omega arith
@@ -80,22 +80,22 @@ next-small set state byte b e = go (leb state 14) refl (leb 1 set) refl (leb set
 
 -- What an accepted byte gives is small enough to share an i32.
 pub small : (set state byte : ℕ) (r : Answer) (n x : ℕ) → r ≡ answerOf set state byte → byte < 256
-    → n ≡ numberOf (r .event) → n ≡ 0 → x ≡ eventNumber (r .event) → (x ≤ 6) × (r .state ≤ 14)
+    → n ≡ eventSays (r .event) .number → n ≡ 0 → x ≡ eventNumber (r .event) → (x ≤ 6) × (r .state ≤ 14)
 small set state byte r n x e b f z u = (rw u (event-small (r .event)), rw e (next-small set state byte b (rw e at (sym f ∙ z))))
 
 -- An answer is the three numbers in one,
-pub taken : (a r : Answer) (n x k : ℕ) → r ≡ a → n ≡ numberOf (r .event) → n ≡ 0 → x ≡ eventNumber (r .event) → k ≡ keyOf (r .event)
+pub taken : (a r : Answer) (n x k : ℕ) → r ≡ a → n ≡ eventSays (r .event) .number → n ≡ 0 → x ≡ eventNumber (r .event) → k ≡ keyOf (r .event)
     → x + 256 * k + 65536 * r .state < 2 ^ 31 → toZ w32 (x + 256 * k + 65536 * r .state) ≡ answerNumber a
 unfolding answerNumber
 taken a r n x k e f z u v h = as-it-is (x + 256 * k + 65536 * r .state) h ∙ rw (u, v, ← e, ← f, z)
 
 -- or minus the number of the refusal.
-pub refused : (a r : Answer) (n m : ℕ) → r ≡ a → n ≡ numberOf (r .event) → (n ≡ 0 → ⊥) → n ≡ m → minus m ≡ answerNumber a
+pub refused : (a r : Answer) (n m : ℕ) → r ≡ a → n ≡ eventSays (r .event) .number → (n ≡ 0 → ⊥) → n ≡ m → minus m ≡ answerNumber a
 unfolding answerNumber
 refused a r n m e f z g = rw (← e, ← f, ne-eqb n 0 z, g)
 
 -- A refusal that is not 9 is 7, first of the event's own number.
-else-7 : (e : Event) → (numberOf e ≡ 0 → ⊥) → (numberOf e ≡ 9 → ⊥) → numberOf e ≡ 7
+else-7 : (e : Event) → (eventSays e .number ≡ 0 → ⊥) → (eventSays e .number ≡ 9 → ⊥) → eventSays e .number ≡ 7
 else-7 More x y = absurd (x refl)
 else-7 (Pressed key) x y = absurd (x refl)
 else-7 (Released key) x y = absurd (x refl)
@@ -106,5 +106,5 @@ else-7 Unknown x y = absurd (x refl)
 else-7 BadState x y = absurd (y refl)
 else-7 BadSet x y = refl
 
-pub not-9-is-7 : (e : Event) (n : ℕ) → n ≡ numberOf e → (n ≡ 0 → ⊥) → (n ≡ 9 → ⊥) → n ≡ 7
+pub not-9-is-7 : (e : Event) (n : ℕ) → n ≡ eventSays e .number → (n ≡ 0 → ⊥) → (n ≡ 9 → ⊥) → n ≡ 7
 not-9-is-7 e n f x y = f ∙ else-7 e (λ z. x (f ∙ z)) (λ z. y (f ∙ z))

@@ -3,13 +3,13 @@
 use Prim.Native.Nat.{ℕ, zero, suc, _+_, _*_}
 use lib.Dec.{eqb}
 use lib.IntN.{ℤ, pos, negsuc}
+use lib.ListN.{getD}
 use Rattle.basics.specs.Choice.{pick}
 use Rattle.frames.specs.declared.Unpacked.{Unpacked}
 use Rattle.frames.specs.declared.Unpacked.the-variants.{Byte, Broken, TooLarge}
 use Rattle.encoder.specs.declared.Encoded.{Encoded}
 use Rattle.encoder.specs.declared.Encoded.the-variants.{Written, BadChoice, ShortOutput}
 use Rattle.reader.specs.declared.Event.{Event}
-use Rattle.reader.specs.declared.Event.the-variants.{More, Pressed, Released, PauseStruck, Wrapping, Overrun, Unknown, BadState, BadSet}
 use Rattle.reader.specs.declared.Answer.{Answer}
 use Rattle.frames.specs.Frames as frames
 use Rattle.encoder.specs.Encoder as encoder
@@ -24,41 +24,24 @@ minus (suc n) = negsuc n
 abbrev pub unpackedNumber : Unpacked → ℤ
 unpackedNumber (Byte byte) = pos byte
 unpackedNumber Broken = minus 256
-unpackedNumber TooLarge = minus (frames.numberOf TooLarge)
+unpackedNumber TooLarge = minus (frames.unpackedSays TooLarge .number)
 
 -- A key encoded: how many bytes were written, or minus the refusal.
 abbrev pub encodedNumber : Encoded → ℤ
 encodedNumber (Written count) = pos count
-encodedNumber BadChoice = minus (encoder.numberOf BadChoice)
-encodedNumber ShortOutput = minus (encoder.numberOf ShortOutput)
+encodedNumber BadChoice = minus (encoder.encodedSays BadChoice .number)
+encodedNumber ShortOutput = minus (encoder.encodedSays ShortOutput .number)
 
--- The number of an event; a refusal is none.
+-- What an event says: its place in the list of events is the first of its values, and its key, if it has one, the second.
 abbrev pub eventNumber : Event → ℕ
-eventNumber More = 0
-eventNumber (Pressed key) = 1
-eventNumber (Released key) = 2
-eventNumber PauseStruck = 3
-eventNumber Wrapping = 4
-eventNumber Overrun = 5
-eventNumber Unknown = 6
-eventNumber BadState = 0
-eventNumber BadSet = 0
+eventNumber event = getD (reader.eventSays event .values) 0 0
 
--- The key of an event, 0 for none.
 abbrev pub keyOf : Event → ℕ
-keyOf More = 0
-keyOf (Pressed key) = key
-keyOf (Released key) = key
-keyOf PauseStruck = 0
-keyOf Wrapping = 0
-keyOf Overrun = 0
-keyOf Unknown = 0
-keyOf BadState = 0
-keyOf BadSet = 0
+keyOf event = getD (reader.eventSays event .values) 1 0
 
 -- A byte read: event, key and next state in one number, unless it was refused.
 unfoldable pub answerNumber : Answer → ℤ
 answerNumber answer =
-    pick (eqb (reader.numberOf (answer .event)) 0)
+    pick (eqb (reader.answerSays answer .number) 0)
     (pos (eventNumber (answer .event) + 256 * keyOf (answer .event) + 65536 * answer .state))
-    (minus (reader.numberOf (answer .event)))
+    (minus (reader.answerSays answer .number))

@@ -6,7 +6,7 @@ use reader::Event;
 ghost use mathlib.Core.Path.{_≡_};
 ghost use Rattle.frames.specs.Frames.{packedOf, unpackedOf};
 ghost use Rattle.encoder.specs.Encoder.{encodedOf, outputOf};
-ghost use Rattle.reader.specs.Reader.{answerOf, numberOf};
+ghost use Rattle.reader.specs.Reader.{answerOf, eventSays};
 ghost use Rattle.keydock.specs.Numbers.{unpackedNumber, encodedNumber, eventNumber, keyOf, answerNumber};
 
 // The frame of a byte.
@@ -88,7 +88,7 @@ fn key_of(event: Event) -> u8
 
 // The number of a refusal, 0 for none.
 fn refusal_of(event: Event) -> u8
-    ensures { λ r. ⌜ r ≡ numberOf event ⌝ }
+    ensures { λ r. ⌜ r ≡ eventSays event .number ⌝ }
 {
     match event {
         Event::More => 0,

@@ -23,7 +23,7 @@ pub const LAST_KEY: u8 = 104;
 // Places for something of each key, by its number: place 0 is no key's.
 pub const PLACES: usize = LAST_KEY as usize + 1;
 
-// The table has the four parts of each row as an array, since an array of structs cannot be lent.
+// The table has the four parts of each row as an array: whoever is lent an array of structs has to be proved by hand, step by step.
 pub type Table = [[u16; 4]; LAST_KEY as usize];
 
 // The types, short enough for the table.

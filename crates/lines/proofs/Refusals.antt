@@ -8,7 +8,7 @@ use Rattle.basics.proofs.Cases.{picked, never}
 use Rattle.dock.specs.declared.Answer.{Answer}
 use Rattle.dock.specs.declared.Given.{Given}
 use Rattle.dock.specs.declared.Given.the-variants.{Nothing, Reply, KeyByte, Refused}
-use Rattle.dock.specs.Answers.{numberOf, isAccepted}
+use Rattle.dock.specs.Answers.{answerSays, isAccepted}
 use Rattle.dock.specs.Frame.{frameOf}
 use Rattle.dock.specs.Read.{readOf}
 use Rattle.dock.specs.Scan.{scanOf}
@@ -35,7 +35,7 @@ refuses (RefusalLine number) = true
 not-accepted : (answer : Answer) → refuses (answerPrints answer) ≡ true → isAccepted answer ≡ false
 not-accepted answer = go (isAccepted answer)
   where
-    go : (accepted : Bool) → refuses (pick accepted Silence (RefusalLine (numberOf answer))) ≡ true → accepted ≡ false
+    go : (accepted : Bool) → refuses (pick accepted Silence (RefusalLine (answerSays answer .number))) ≡ true → accepted ≡ false
     go true e = sym e
     go false e = refl
 

@@ -16,6 +16,7 @@ ghost use mathlib.Core.Bool.{true};
 ghost use mathlib.Core.List.{List};
 ghost use Prim.Native.Nat.{ℕ};
 ghost use lib.ListN.{length};
+ghost use Rattle.basics.specs.Said.{Answers};
 ghost use Rattle.dock.specs.Closing.{restInRange};
 ghost use Rattle.dock.specs.Scan.{scanOf};
 ghost use Rattle.dock.specs.Swap.{swapOf};
@@ -24,7 +25,7 @@ ghost use Rattle.dock.specs.Read.{readOf};
 ghost use Rattle.digits.specs.Digits.{allDigits, bytesFrom, frameIn};
 ghost use Rattle.record.specs.Apart.{dockWith};
 ghost use Rattle.range.specs.Range.{inRange};
-ghost use Rattle.lines.specs.Steps.{answerPrints, readPrints, steppedBy, steppedRead, steppedWith, stepOf};
+ghost use Rattle.lines.specs.Steps.{answerPrints, readPrints, steppedBy, steppedRead, steppedWith, stepOf, steppedSays, stepSaid};
 
 // What a line prints.
 pub enum Printed {
@@ -197,7 +198,7 @@ pub fn step_in_place(
 
 // One line, without its newline, of any record. One out of its range is refused whatever the line is.
 pub fn step(dock: Dock, line: &[u8]) -> Stepped
-    ensures { λ r. ⌜ r ≡ stepOf dock (now (line .entry)) ⌝ }
+    ensures { λ r. ⌜ Answers steppedSays r (stepOf dock (now (line .entry))) (stepSaid dock (now (line .entry))) ⌝ }
 {
     if !range::in_range(dock) {
         return Stepped {

@@ -1,8 +1,10 @@
 -- Reading key bytes, one at a time (docs/RULES.md, section 4). Assumes nothing.
 use Prim.Native.Nat.{ℕ, _+_, _%_}
 use mathlib.Core.Bool.{Bool, true, false}
+use mathlib.Core.List.{[], _∷_}
 use lib.Dec.{eqb, ltb, leb}
 use Rattle.basics.specs.Choice.{pick, either, between}
+use Rattle.basics.specs.Said.{Said, accepted, refused}
 use Rattle.keys.specs.Keys.{codeIn, altPrint, leftWrap, rightWrap, markOf}
 use Rattle.lookup.specs.Lookup.{keyWith}
 use Rattle.reader.specs.declared.Event.{Event}
@@ -98,17 +100,26 @@ answerOf set state byte =
     (pick (between 1 3 set) (readByte set state byte) (record { state = state; event = BadSet }))
     (record { state = state; event = BadState })
 
--- The number that is given back (docs/RULES.md, section 9).
-abbrev pub numberOf : Event → ℕ
-numberOf More = 0
-numberOf (Pressed key) = 0
-numberOf (Released key) = 0
-numberOf PauseStruck = 0
-numberOf Wrapping = 0
-numberOf Overrun = 0
-numberOf Unknown = 0
-numberOf BadState = 9
-numberOf BadSet = 7
+-- What each event says (docs/RULES.md, section 9): the place of an event in the list of section 4, counted from 0, and its key.
+abbrev pub eventSays : Event → Said
+eventSays More = accepted (0 ∷ [])
+eventSays (Pressed key) = accepted (1 ∷ key ∷ [])
+eventSays (Released key) = accepted (2 ∷ key ∷ [])
+eventSays PauseStruck = accepted (3 ∷ [])
+eventSays Wrapping = accepted (4 ∷ [])
+eventSays Overrun = accepted (5 ∷ [])
+eventSays Unknown = accepted (6 ∷ [])
+eventSays BadState = refused 9
+eventSays BadSet = refused 7
+
+-- What an answer says is what its event says,
+abbrev pub answerSays : Answer → Said
+answerSays answer = eventSays (answer .event)
+
+-- and this is what is said of a byte in a state of a set, by the table.
+unfoldable pub answerSaid : ℕ → ℕ → ℕ → Said
+answerSaid set state byte =
+    pick (leb state 14) (pick (between 1 3 set) (answerSays (readByte set state byte)) (refused 7)) (refused 9)
 
 -- The key that a press carries, 0 for any other event.
 abbrev pub pressedKey : Event → ℕ

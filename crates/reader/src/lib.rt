@@ -9,8 +9,9 @@ use set2::read2;
 use set3::read3;
 use steps::end;
 ghost use mathlib.Core.Path.{_≡_};
+ghost use Rattle.basics.specs.Said.{Answers};
 ghost use Rattle.keys.specs.Keys.{markOf};
-ghost use Rattle.reader.specs.Reader.{readByte, answerOf, pressOf};
+ghost use Rattle.reader.specs.Reader.{readByte, answerOf, answerSays, answerSaid, pressOf};
 
 // What a byte tells.
 pub enum Event {
@@ -69,7 +70,7 @@ fn read_byte(set: u32, state: u32, byte: u8) -> Answer
 
 // The reader: set 1 to 3, state 0 to 14 (0 to begin with, then what the answer before gave), and a byte.
 pub fn read(set: u32, state: u32, byte: u8) -> Answer
-    ensures { λ r. ⌜ r ≡ answerOf set state byte ⌝ }
+    ensures { λ r. ⌜ Answers answerSays r (answerOf set state byte) (answerSaid set state byte) ⌝ }
 {
     if 14 < state {
         return Answer {

@@ -38,7 +38,7 @@ use Rattle.runs.specs.Onlookers.{atPowerOn, isCountedBy, sawScan, isMap,
 use Rattle.runs.specs.Worlds.{woken, next, afterCalls}
 use Rattle.runs.specs.Runs.{mayBegin, changesOverrun, overruns, undisturbed}
 use Rattle.runs.specs.Stories.{Story, outcome, flagged, saidFrom, host, nothing, showing, showingToo}
-use Rattle.runs.specs.Told.{stories, limestone, heldOn, repeatEnded, shiftedCursor, shiftedCursorInSet1, twelve, twelvePressed, twelveReleased, longHandover, secondSwap, otherPanel, waitingCommand, scanningOff, phantomScans, waitingReply, thirdScan, pauseStruck, refusals}
+use Rattle.runs.specs.Told.{stories, limestone, heldOn, repeatEnded, shiftedCursor, shiftedCursorInSet1, shiftLetGo, twelve, twelvePressed, twelveReleased, longHandover, secondSwap, otherPanel, waitingCommand, scanningOff, phantomScans, waitingReply, thirdScan, pauseStruck, refusals}
 
 -- The list names every unfoldable definition that a story computes through, crate by crate. If one is missing, the two sides stand
 -- still and `refl` is refused: add it here.
@@ -66,6 +66,6 @@ unfolding
     begun hears
     clears isClearing atPowerOn isCountedBy sawScan isMap sawSwap scanningAfter waitingAfter sawByte woken next afterCalls mayBegin changesOverrun
     overruns undisturbed outcome flagged saidFrom host nothing showing showingToo stories limestone heldOn repeatEnded
-    shiftedCursor shiftedCursorInSet1 twelve twelvePressed twelveReleased givenIn longHandover secondSwap
+    shiftedCursor shiftedCursorInSet1 shiftLetGo twelve twelvePressed twelveReleased givenIn longHandover secondSwap
     otherPanel waitingCommand scanningOff phantomScans waitingReply thirdScan pauseStruck refusals
 all-as-told = refl

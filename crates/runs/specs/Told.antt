@@ -42,6 +42,13 @@ shiftedCursorInSet1 =
     (scans 3 (showingToo 8 1 (showing 5 2)) ++ reads 5 ++ Swap plainMap ∷ reads 3)
     (agreeing (0x2a ∷ 0xe0 ∷ 0xaa ∷ 0xe0 ∷ 0x48 ∷ 0xaa ∷ 0xe0 ∷ 0xc8 ∷ []) [])
 
+-- SHIFT and UP are pressed, and SHIFT comes up before UP does: UP, which went down wrapped, comes up in its base form, with no byte more.
+unfoldable pub shiftLetGo : Story
+shiftLetGo =
+    story (reads 1)
+    (scans 3 (showingToo 8 1 (showing 5 2)) ++ reads 6 ++ scans 3 (showing 8 1) ++ reads 2 ++ scans 3 nothing ++ reads 5)
+    (agreeing (0x12 ∷ 0xe0 ∷ 0xf0 ∷ 0x12 ∷ 0xe0 ∷ 0x75 ∷ 0xf0 ∷ 0x12 ∷ 0xe0 ∷ 0xf0 ∷ 0x75 ∷ []) [])
+
 -- Twelve keys in five columns.
 unfoldable pub twelve : List ℕ
 twelve = showingToo 4 1 (showingToo 3 1 (showingToo 2 1 (showingToo 1 1 (showing 0 0xff))))
@@ -107,5 +114,5 @@ refusals =
 -- All of them, the long ones last.
 unfoldable pub stories : List Story
 stories =
-    limestone ∷ heldOn ∷ shiftedCursor ∷ shiftedCursorInSet1 ∷ otherPanel ∷ waitingCommand ∷ scanningOff ∷ phantomScans ∷ waitingReply
-    ∷ thirdScan ∷ pauseStruck ∷ refusals ∷ repeatEnded ∷ longHandover ∷ secondSwap ∷ []
+    limestone ∷ heldOn ∷ shiftLetGo ∷ shiftedCursor ∷ shiftedCursorInSet1 ∷ otherPanel ∷ waitingCommand ∷ scanningOff ∷ phantomScans
+    ∷ waitingReply ∷ thirdScan ∷ pauseStruck ∷ refusals ∷ repeatEnded ∷ longHandover ∷ secondSwap ∷ []

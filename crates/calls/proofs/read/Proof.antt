@@ -2,12 +2,14 @@
 use mathlib.Core.Path.{sym, _∙_}
 use borrow.Author.Needs.{needs}
 use borrow.Author.Tests.{not-true, not-false}
+use Rattle.basics.proofs.Once.{answering}
 use Rattle.record.specs.declared.Dock.{Dock}
 use Rattle.dock.specs.declared.Taken.{Taken}
 use Rattle.dock.specs.Answers.{taken}
 use Rattle.dock.specs.Read.{readOf}
 use Rattle.dock.proofs.InRange.{rest-in-range, apart-in-range}
 use Rattle.dock.proofs.Reading.{read-bad-record}
+use Rattle.dock.proofs.Saying.{read-says}
 use Rattle.record.proofs.Whole.{put-together}
 use Rattle.calls.proofs.read.Statement.{statement}
 use Rattle.calls.proofs.read.Tie as tie
@@ -16,7 +18,7 @@ in-range-requires : tie.Need-in-range-requires
 in-range-requires c κs = search needs
 
 returns : tie.Need-returns
-returns c = read-bad-record _ (sym (c .before .in-range .ensures) ∙ not-true _ (c .if1 .taken))
+returns c = answering (read-says _) (read-bad-record _ (sym (c .before .in-range .ensures) ∙ not-true _ (c .if1 .taken)))
 
 rest-of-requires : tie.Need-rest-of-requires
 rest-of-requires c κs = search needs
@@ -40,8 +42,9 @@ returns-2 c =
     let looked = rest .before .before .before .before .before .before .before .before in
     let a = looked .before .before .args in
     let d = a .dock in
-    put-together Taken (λ (e : Dock). taken (x .result .given) e) readOf d _ _ _ (rest .rest-of .ensures) (c .dock-with .ensures)
-    (x .ensures (d .map) (d .contacts .closed) (d .contacts .counts) (apart-in-range d _ _ (rest .rest-of .ensures) (looked .before .in-range .ensures) (not-false _ (looked .if1 .left))))
+    answering (read-says _)
+    (put-together Taken (λ (e : Dock). taken (x .result .given) e) readOf d _ _ _ (rest .rest-of .ensures) (c .dock-with .ensures)
+    (x .ensures (d .map) (d .contacts .closed) (d .contacts .counts) (apart-in-range d _ _ (rest .rest-of .ensures) (looked .before .in-range .ensures) (not-false _ (looked .if1 .left)))))
 
 pub read-spec : {M : Type 1} → statement M
 read-spec =

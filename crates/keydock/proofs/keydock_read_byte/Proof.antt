@@ -10,7 +10,7 @@ use Rattle.keydock.proofs.keydock_read_byte.Tie as tie
 sizes : (c : tie.After-event-number) → (c .event-number .result ≤ 6) × (c .before .before .before .before .read .result .state ≤ 14)
 sizes c =
     let told = c .before .before .before in
-    small _ _ _ _ _ _ (told .before .read .ensures) (omega arith) (told .refusal-of .ensures) (c .before .before .if1 .taken)
+    small _ _ _ _ _ _ (told .before .read .ensures .answer) (omega arith) (told .refusal-of .ensures) (c .before .before .if1 .taken)
     (c .event-number .ensures)
 
 read-requires : tie.Need-read-requires
@@ -46,18 +46,18 @@ cast-result c = record { sfits = omega (arith, sizes (c .before)) }
 returns : tie.Need-returns
 returns c =
     let told = c .before .before .before .before in
-    taken _ _ _ _ _ (told .before .read .ensures) (told .refusal-of .ensures) (c .before .before .before .if1 .taken)
+    taken _ _ _ _ _ (told .before .read .ensures .answer) (told .refusal-of .ensures) (c .before .before .before .if1 .taken)
     (c .before .event-number .ensures) (c .before .before .key-of .ensures) (omega (arith, sizes (c .before)))
 
 returns-2 : tie.Need-returns-2
 returns-2 c =
     let told = c .before .before in
-    refused _ _ _ 9 (told .before .read .ensures) (told .refusal-of .ensures) (c .before .if1 .left) (c .if2 .taken)
+    refused _ _ _ 9 (told .before .read .ensures .answer) (told .refusal-of .ensures) (c .before .if1 .left) (c .if2 .taken)
 
 returns-3 : tie.Need-returns-3
 returns-3 c =
     let told = c .before .before in
-    refused _ _ _ 7 (told .before .read .ensures) (told .refusal-of .ensures) (c .before .if1 .left)
+    refused _ _ _ 7 (told .before .read .ensures .answer) (told .refusal-of .ensures) (c .before .if1 .left)
     (not-9-is-7 (told .before .read .result .event) _ (told .refusal-of .ensures) (c .before .if1 .left) (c .if2 .left))
 
 pub keydock-read-byte-spec : {M : Type 1} → statement M

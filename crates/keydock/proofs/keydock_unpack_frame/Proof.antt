@@ -23,13 +23,13 @@ enum-told-2 : tie.Need-enum-told-2
 enum-told-2 c = search needs
 
 returns : tie.Need-returns
-returns c = as-it-is (c .before .answer .given .0 .0) (omega arith) ∙ ap unpackedNumber (sym (c .before .answer .given .1) ∙ c .before .before .before .unpack .ensures)
+returns c = as-it-is (c .before .answer .given .0 .0) (omega arith) ∙ ap unpackedNumber (sym (c .before .answer .given .1) ∙ c .before .before .before .unpack .ensures .answer)
 
 returns-2 : tie.Need-returns-2
-returns-2 c = ap unpackedNumber (sym (c .enum-told .given .1) ∙ c .before .before .unpack .ensures)
+returns-2 c = ap unpackedNumber (sym (c .enum-told .given .1) ∙ c .before .before .unpack .ensures .answer)
 
 returns-3 : tie.Need-returns-3
-returns-3 c = ap unpackedNumber (sym (c .enum-told2 .given .1) ∙ c .before .before .unpack .ensures)
+returns-3 c = ap unpackedNumber (sym (c .enum-told2 .given .1) ∙ c .before .before .unpack .ensures .answer)
 
 pub keydock-unpack-frame-spec : {M : Type 1} → statement M
 keydock-unpack-frame-spec =

@@ -2,12 +2,14 @@
 use mathlib.Core.Path.{sym, _∙_}
 use borrow.Author.Needs.{needs}
 use borrow.Author.Tests.{not-true, not-false}
+use Rattle.basics.proofs.Once.{answering}
 use Rattle.record.specs.declared.Dock.{Dock}
 use Rattle.record.proofs.Whole.{put-together}
 use Rattle.dock.proofs.InRange.{apart-in-range}
 use Rattle.lines.specs.declared.Stepped.{Stepped}
 use Rattle.lines.specs.Steps.{stepped, stepOf}
 use Rattle.lines.proofs.Printing.{bad-record-steps}
+use Rattle.lines.proofs.Saying.{step-says}
 use Rattle.lines.proofs.step.Statement.{statement}
 use Rattle.lines.proofs.step.Tie as tie
 
@@ -15,7 +17,7 @@ in-range-requires : tie.Need-in-range-requires
 in-range-requires c κs = search needs
 
 returns : tie.Need-returns
-returns c = bad-record-steps _ _ (sym (c .before .in-range .ensures) ∙ not-true _ (c .if1 .taken))
+returns c = answering (step-says _ _) (bad-record-steps _ _ (sym (c .before .in-range .ensures) ∙ not-true _ (c .if1 .taken)))
 
 rest-of-requires : tie.Need-rest-of-requires
 rest-of-requires c κs = search needs
@@ -40,8 +42,9 @@ returns-2 c =
     let looked = rest .before .before .before .before .before .before .before .before in
     let a = looked .before .before .before .args in
     let d = a .dock in
-    put-together Stepped (λ (e : Dock). stepped e (x .result .printed)) (λ (e : Dock). stepOf e (a .line .now)) d _ _ _ (rest .rest-of .ensures) (c .dock-with .ensures)
-    (x .ensures)
+    answering (step-says _ _)
+    (put-together Stepped (λ (e : Dock). stepped e (x .result .printed)) (λ (e : Dock). stepOf e (a .line .now)) d _ _ _ (rest .rest-of .ensures) (c .dock-with .ensures)
+    (x .ensures))
 
 pub step-spec : {M : Type 1} → statement M
 step-spec =

@@ -11,10 +11,10 @@ enum-known-event : tie.Need-enum-known-event
 enum-known-event c = search needs
 
 returns : tie.Need-returns
-returns c = passed-over _ _ (c .before .read .ensures) (c .match .keys2)
+returns c = passed-over _ _ (c .before .read .ensures .answer) (c .match .keys2)
 
 returns-2 : tie.Need-returns-2
-returns-2 c = taken-out _ _ (c .before .before .before .read .ensures) _ (c .before .event .given .1)
+returns-2 c = taken-out _ _ (c .before .before .before .read .ensures .answer) _ (c .before .event .given .1)
 
 pub read-press-spec : {M : Type 1} → statement M
 read-press-spec = tie.close (tie.spec read-requires enum-known-event returns returns-2)

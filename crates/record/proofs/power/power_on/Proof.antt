@@ -1,38 +1,77 @@
--- `record::power::power_on` meets its contract: the plain map is computed, and AA is the one reply. Assumes nothing.
-use Prim.Native.Nat.{ℕ}
-use mathlib.Core.Path.{ap, ap₂, _∙_}
-use mathlib.Core.List.{List}
-use lib.ListN.{replicate}
+-- `record::power::power_on` meets its contract. The loop's invariant: the record is as before it, but for the map, whose positions below
+-- this one are filled. The measure is the number of positions left. Assumes nothing.
+use Prim.Native.Nat.{_-_, _≤_}
+use mathlib.Core.Path.{_≡_}
+use native.Mathlib.Omega.{arith}
 use borrow.Author.Needs.{needs}
-use Rattle.replies.specs.declared.Replies.{Replies}
-use Rattle.record.specs.declared.Rest.{Rest}
-use Rattle.record.specs.Apart.{restOf, dockWith}
-use Rattle.record.specs.Power.{countUp, plainMap, freshWith, powerOn}
+use Rattle.record.specs.Parts.{withMap}
+use Rattle.record.specs.Power.{plainMap}
+use Rattle.record.proofs.Filling.{filledTo, filled-none, filled-more, filled-power-on}
 use Rattle.record.proofs.power.power_on.Statement.{statement}
 use Rattle.record.proofs.power.power_on.Tie as tie
 
-default-types-requires : tie.Need-default-types-requires
+abbrev Inv-loop : tie.InvT-loop
+Inv-loop dock₀ position₀ dock position = (position ≤ 104) × (dock ≡ withMap dock₀ (filledTo position (dock₀ .map)))
+
+abbrev μ-loop : tie.MeasureT-loop
+μ-loop dock₀ position₀ dock position = 104 - position
+
+default-types-requires : tie.Need-default-types-requires Inv-loop μ-loop
 default-types-requires c κs = search needs
 
-one-requires : tie.Need-one-requires
+one-requires : tie.Need-one-requires Inv-loop μ-loop
 one-requires c κs = search needs
 
-fresh-rest-requires : tie.Need-fresh-rest-requires
+fresh-rest-requires : tie.Need-fresh-rest-requires Inv-loop μ-loop
 fresh-rest-requires c κs = search needs
 
-dock-with-requires : tie.Need-dock-with-requires
+dock-with-requires : tie.Need-dock-with-requires Inv-loop μ-loop
 dock-with-requires c κs = search needs
 
-returns : tie.Need-returns
-unfolding powerOn plainMap countUp freshWith
+loop-holds : tie.Need-loop-holds Inv-loop μ-loop
+loop-holds c = (omega arith, filled-none _)
+
+add-dock : tie.Need-add-dock Inv-loop μ-loop
+add-dock c = omega arith
+
+cast-dock : tie.Need-cast-dock Inv-loop μ-loop
+cast-dock c = omega arith
+
+element-write-dock : tie.Need-element-write-dock Inv-loop μ-loop
+element-write-dock c = omega arith
+
+add-position : tie.Need-add-position Inv-loop μ-loop
+add-position c = omega arith
+
+loop-less : tie.Need-loop-less Inv-loop μ-loop
+loop-less c = omega arith
+
+loop-again : tie.Need-loop-again Inv-loop μ-loop
+loop-again c = (omega arith, filled-more (c .before .before .dock-with .result) _ _ (c .before .loop .inv .1))
+
+returns : tie.Need-returns Inv-loop μ-loop
 returns c =
-    let replies = c .before .before in
-    let rest = c .before .fresh-rest .ensures plainMap ∙ ap (λ (r : Replies). restOf (freshWith plainMap r)) (replies .one .ensures) in
-    c .dock-with .ensures
-    ∙ ap₂ (λ (types : List ℕ) (r : Rest). dockWith plainMap (replicate 18 0) (replicate 144 0) (replicate 144 0) types r)
-    (replies .before .default-types .ensures) rest
+    let begun = c .before .before in
+    let rest = begun .before in
+    let replies = rest .before in
+    filled-power-on _ _ _ _ _ _ (c .before .loop .inv) (c .loop-test .left) (begun .dock-with .ensures)
+    (replies .before .default-types .ensures) (rest .fresh-rest .ensures plainMap) (replies .one .ensures)
 
 pub power-on-spec : {M : Type 1} → statement M
 power-on-spec =
     tie.close
-    (tie.spec default-types-requires one-requires fresh-rest-requires dock-with-requires returns)
+    (tie.spec
+    Inv-loop
+    μ-loop
+    default-types-requires
+    one-requires
+    fresh-rest-requires
+    dock-with-requires
+    loop-holds
+    add-dock
+    cast-dock
+    element-write-dock
+    add-position
+    loop-less
+    loop-again
+    returns)

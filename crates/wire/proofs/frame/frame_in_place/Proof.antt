@@ -47,7 +47,7 @@ returns : tie.Need-returns
 returns c = λ map known.
     let unpacked = c .before .before in
     let a = unpacked .before .args in
-    frame-too-large (dockWith map (a .closed .now) (a .counts .now) (a .held .now) (a .types .now) (a .rest)) (a .number) known _ (unpacked .unpack .ensures) (c .enum-told .given .1)
+    frame-too-large (dockWith map (a .closed .now) (a .counts .now) (a .held .now) (a .types .now) (a .rest)) (a .number) known _ (unpacked .unpack .ensures .answer) (c .enum-told .given .1)
 
 returns-2 : tie.Need-returns-2
 returns-2 c = λ map known.
@@ -55,7 +55,7 @@ returns-2 c = λ map known.
     let unpacked = told .before .before in
     let a = unpacked .before .args in
     frame-broken (dockWith map (a .closed .now) (a .counts .now) (a .held .now) (a .types .now) (a .rest)) (a .number) known
-    _ (unpacked .unpack .ensures) (dockWith map (a .closed .now) (a .counts .now) (a .held .now) (a .types .now) (c .before .reply .result))
+    _ (unpacked .unpack .ensures .answer) (dockWith map (a .closed .now) (a .counts .now) (a .held .now) (a .types .now) (c .before .reply .result))
     _ (c .close-in-place .ensures map (a .closed .now) (a .counts .now)) (told .enum-told2 .given .1)
     (c .before .reply .ensures map (a .closed .now) (a .counts .now) (a .held .now) (a .types .now))
 
@@ -66,7 +66,7 @@ returns-3 c = λ map known.
     let unpacked = told .before .before .before in
     let a = unpacked .before .args in
     frame-byte (dockWith map (a .closed .now) (a .counts .now) (a .held .now) (a .types .now) (a .rest)) (a .number) known
-    _ (unpacked .unpack .ensures)
+    _ (unpacked .unpack .ensures .answer)
     _ _ (c .close-in-place2 .ensures map _ _) _ (told .before .unpacked .given .1) (took .take .ensures map)
 
 pub frame-in-place-spec : {M : Type 1} → statement M

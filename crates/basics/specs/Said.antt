@@ -1,0 +1,22 @@
+-- What an answer says, in the terms of the table of numbers (docs/RULES.md, section 9). Assumes nothing.
+use Prim.Native.Nat.{ℕ}
+use mathlib.Core.Path.{_≡_}
+use mathlib.Core.List.{List, []}
+
+-- The number that is given back, and the values that come with it.
+pub record Said : Type 0 where
+  pub number : ℕ
+  pub values : List ℕ
+
+-- What is accepted has the number 0, and may have values; a refusal has its number alone.
+abbrev pub accepted : List ℕ → Said
+accepted values = record { number = 0; values = values }
+
+abbrev pub refused : ℕ → Said
+refused number = record { number = number; values = [] }
+
+-- What an entry point promises whose answer is an enum: the answer r is the one stated, and by the list of what each case says it has
+-- the number and the values of the table.
+pub record Answers {A : Type 0} (says : A → Said) (r stated : A) (tabled : Said) : Type 0 where
+  pub answer : r ≡ stated
+  pub said : says r ≡ tabled
