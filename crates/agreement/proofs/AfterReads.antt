@@ -9,53 +9,61 @@ use Rattle.basics.specs.Choice.{both, either}
 use Rattle.keys.specs.Keys.{lastKey}
 use Rattle.dock.specs.Scan.{quiet}
 use Rattle.runs.specs.Calls.{Call, Read, isClearingCall}
+use Rattle.runs.specs.Machines.{ours}
 use Rattle.runs.specs.Worlds.{World, woken, next, afterCalls, scansSay}
 use Rattle.runs.specs.Runs.{mayBegin, beginning, overrunsIn, undisturbed}
+use Rattle.runs.specs.Demand.{endOf, Premises}
 use Rattle.terminal.specs.Terminals.{isDown}
+use Rattle.agreement.proofs.Taken.{nothing-is-quiet}
 use Rattle.agreement.proofs.AnyCalls.{begun-sound}
 use Rattle.agreement.proofs.Bounds.{Steady, any-steady, reached-steady}
 use Rattle.agreement.proofs.Ending.{enough-reads}
 use Rattle.agreement.proofs.ThirdDemand.{third-demand}
 
 -- Calls and then more calls.
-after-both : (calls more : List Call) (w : World) → afterCalls w (calls ++ more) ≡ afterCalls (afterCalls w calls) more
+after-both : (calls more : List Call) (w : World) → afterCalls ours w (calls ++ more) ≡ afterCalls ours (afterCalls ours w calls) more
 unfolding afterCalls
 after-both [] more w = refl
-after-both (call ∷ calls) more w = after-both calls more (next w call)
+after-both (call ∷ calls) more w = after-both calls more (next ours w call)
 
 -- Reads disturb nothing,
-reads-calm : (n : ℕ) (w : World) → undisturbed w (replicate n Read) ≡ true
+reads-calm : (n : ℕ) (w : World) → undisturbed ours w (replicate n Read) ≡ true
 unfolding undisturbed
 reads-calm zero w = refl
-reads-calm (suc n) w = reads-calm n (next w Read)
+reads-calm (suc n) w = reads-calm n (next ours w Read)
 
 -- nor do they behind other calls.
-calm-with-reads : (calls : List Call) (n : ℕ) (w : World) → undisturbed w (calls ++ replicate n Read) ≡ undisturbed w calls
+calm-with-reads : (calls : List Call) (n : ℕ) (w : World) → undisturbed ours w (calls ++ replicate n Read) ≡ undisturbed ours w calls
 unfolding undisturbed
 calm-with-reads [] n w = reads-calm n w
 calm-with-reads (call ∷ calls) n w =
-    ap (λ (b : Bool). both (not (either (isClearingCall call) (overrunsIn (w .dock) call))) b) (calm-with-reads calls n (next w call))
+    ap (λ (b : Bool). both (not (either (isClearingCall call) (overrunsIn w call))) b) (calm-with-reads calls n (next ours w call))
 
 -- A read tells the onlooker nothing, so the scans say after reads what they said before.
-pub reads-say-the-same : (n : ℕ) (w : World) (key : ℕ) → scansSay (afterCalls w (replicate n Read)) key ≡ scansSay w key
+pub reads-say-the-same : (n : ℕ) (w : World) (key : ℕ) → scansSay (afterCalls ours w (replicate n Read)) key ≡ scansSay w key
 unfolding afterCalls next
 reads-say-the-same zero w key = refl
-reads-say-the-same (suc n) w key = reads-say-the-same n (next w Read) key
+reads-say-the-same (suc n) w key = reads-say-the-same n (next ours w Read) key
 
-module _ (earlier calls : List Call) (begins : mayBegin (afterCalls woken earlier .dock) ≡ true)
-    (calm : undisturbed (beginning (afterCalls woken earlier)) calls ≡ true) (n : ℕ) (enough : 851 ≤ n) where
-  start : World
-  start = beginning (afterCalls woken earlier)
-
-  steady : Steady start
-  unfolding start
-  steady = let s = reached-steady earlier in record { sound = begun-sound (afterCalls woken earlier) (s .sound); roomy = s .roomy }
-
-  nothing : quiet (afterCalls start (calls ++ replicate n Read) .dock) ≡ true
-  nothing = rw (after-both calls (replicate n Read) start) (enough-reads (afterCalls start calls) (any-steady calls start steady) n enough)
+module _ (earlier calls : List Call) (begins : mayBegin ours (afterCalls ours (woken ours) earlier) ≡ true)
+    (calm : undisturbed ours (beginning (afterCalls ours (woken ours) earlier)) calls ≡ true) (n : ℕ) (enough : 851 ≤ n) where
+  -- After those reads the premises of demand 3 are met, so that what it says is so.
+  pub reads-meet-premises : Premises ours earlier (calls ++ replicate n Read)
+  unfolding endOf
+  reads-meet-premises =
+      let start = beginning (afterCalls ours (woken ours) earlier) in
+      let s = reached-steady earlier in
+      let steady : Steady start = record { sound = begun-sound (afterCalls ours (woken ours) earlier) (s .sound); roomy = s .roomy } in
+      let end = afterCalls ours start (calls ++ replicate n Read) in
+      let sound = any-steady (calls ++ replicate n Read) start steady .sound in
+      let silent : quiet (end .dock) ≡ true =
+      rw (after-both calls (replicate n Read) start) (enough-reads (afterCalls ours start calls) (any-steady calls start steady) n enough) in
+      record {
+        begins = begins;
+        calm = calm-with-reads calls n start ∙ calm;
+        nothing = nothing-is-quiet (end .dock) (sound .range) ∙ silent;
+      }
 
   pub third-demand-after-reads : (key : ℕ) → 1 ≤ key → key ≤ lastKey → (key ≡ 101 → ⊥)
-      → isDown (afterCalls (beginning (afterCalls woken earlier)) (calls ++ replicate n Read) .terminal) key
-      ≡ scansSay (afterCalls (beginning (afterCalls woken earlier)) (calls ++ replicate n Read)) key
-  unfolding start
-  third-demand-after-reads = third-demand earlier (calls ++ replicate n Read) begins (calm-with-reads calls n start ∙ calm) nothing
+      → isDown (endOf ours earlier (calls ++ replicate n Read) .terminal) key ≡ scansSay (endOf ours earlier (calls ++ replicate n Read)) key
+  third-demand-after-reads = third-demand earlier (calls ++ replicate n Read) reads-meet-premises

@@ -4,32 +4,41 @@ use mathlib.Core.Path.{_≡_, refl, sym, ap, _∙_}
 use mathlib.Core.Logic.{inl}
 use mathlib.Core.Bool.{Bool, true, false, not}
 use mathlib.Core.List.{List, [], _∷_}
-use borrow.Author.Tests.{not-true}
-use Prim.Native.Nat.{ℕ}
-use lib.Dec.{eqb}
+use native.Mathlib.Omega.{arith}
+use borrow.Author.Tests.{not-true, ltb-false, ne-eqb}
+use Prim.Native.Nat.{ℕ, _+_}
+use lib.Dec.{eqb, ltb}
 use lib.ListN.{length}
 use Rattle.basics.specs.Choice.{pick, both, either}
 use Rattle.basics.specs.Lists.{allUpTo}
 use Rattle.basics.proofs.Flags.{left-of-both, right-of-both, both-false}
 use Rattle.dock.proofs.InRange.{scan-in-range, read-in-range, swap-in-range, frame-in-range}
+use Rattle.contacts.specs.Counts.{countedOf}
 use Rattle.dock.specs.Scan.{listening, isCounted}
 use Rattle.dock.specs.Swap.{swapOf}
 use Rattle.history.specs.Scans.{countedAll}
+use Rattle.keying.specs.Repeat.{ticked}
+use Rattle.keys.specs.Keys.{lastKey}
 use Rattle.maps.specs.Maps.{isIn, hasDouble}
-use Rattle.queue.specs.Queues.{queueOf}
+use Rattle.queue.specs.Queues.{waiting, queueOf}
 use Rattle.record.specs.declared.Dock.{Dock}
 use Rattle.record.specs.declared.Mode.{Mode}
 use Rattle.record.specs.Power.{countUp, plainMap, freshWith, powerOn}
 use Rattle.range.specs.Range.{inRange}
 use Rattle.range.proofs.PowerOn.{power-on-in-range}
-use Rattle.runs.specs.Calls.{Call, Scan, Swap, Frame, Read, isClearingCall}
+use Rattle.runs.specs.Calls.{Call, Scan, Swap, Frame, Read, asBytes, isClearingCall}
 use Rattle.runs.specs.Onlookers.{Onlooker, onlooker, atPowerOn, isCountedBy, sawScan, isMap, sawSwap}
+use Rattle.runs.specs.Machines.{ours, findsNoRoom, keyLeft}
 use Rattle.runs.specs.Worlds.{World, woken, next, afterCalls}
-use Rattle.runs.specs.Runs.{beginning, overrunsIn, undisturbed}
+use Rattle.runs.specs.Runs.{beginning, turningBytes, overruns, overrunsIn, undisturbed}
 use Rattle.basics.proofs.Cases.{neither-first, never}
 use Rattle.telling.proofs.Held.{none-agree, contact-open}
 use Rattle.basics.proofs.Zeros.{zeros-at}
-use Rattle.agreement.proofs.Ready.{Settled, shut-settled}
+use Rattle.agreement.proofs.Rules.{phantom-same}
+use Rattle.agreement.proofs.Left.{none-lowest}
+use Rattle.agreement.proofs.Overrunning.{changesOverrun, scanOverruns, turns-fit}
+use Rattle.agreement.proofs.Ready.{IsReady, Settled, shut-settled}
+use Rattle.agreement.proofs.SaidHeld.{none-held, no-scan-says}
 use Rattle.agreement.proofs.Following.{Follows}
 use Rattle.agreement.proofs.Scanned.{scan-settled, scan-follows}
 use Rattle.agreement.proofs.Swapped.{swap-settled, swap-follows}
@@ -45,7 +54,7 @@ pub record Sound (w : World) : Type 0 where
   pub knows : Knows (w .dock) (w .onlooker)
 
 -- At power-on.
-pub woken-sound : Sound woken
+pub woken-sound : Sound (woken ours)
 unfolding woken atPowerOn powerOn freshWith plainMap countUp allUpTo isIn hasDouble queueOf countedAll
 woken-sound =
     record {
@@ -61,38 +70,72 @@ woken-sound =
         agree = λ shut. none-agree plainMap _ _ (zeros-at 144) (λ position h. contact-open 18 position);
         anew = λ begun. never false begun refl;
       });
-      knows = (refl, refl, refl);
+      knows = (refl, refl, refl, refl);
     }
 
 -- Where a terminal begins.
 pub begun-sound : (w : World) → Sound w → Sound (beginning w)
 begun-sound w s = record { range = s .range; settled = s .settled; knows = s .knows }
 
--- Where a swap is unfinished no scan has been counted since.
-still-open : (d : Dock) (scans : List (List ℕ)) → Settled d scans → d .handover ≡ both (eqb (length scans) 0) (d .handover)
-still-open d scans s = go (d .handover) (s .ready .anew)
+-- Where no handover is open and no scan has been counted no key is held, so none is left.
+none-left : (d : Dock) (scans : List (List ℕ)) → IsReady d scans → d .handover ≡ false → scans ≡ [] → keyLeft d ≡ false
+unfolding keyLeft findsNoRoom
+none-left d scans r shut none =
+    rw (none-lowest lastKey 1 (d .keys .held) (none-held d scans r shut (rw none (no-scan-says 0 (d .map)))))
+
+-- A handover is open exactly if a key is left and no scan has been counted since the swap.
+still-open : (d : Dock) (scans : List (List ℕ)) → Settled d scans → d .handover ≡ both (eqb (length scans) 0) (keyLeft d)
+still-open d scans s = go (d .handover) refl scans refl
   where
-    go : (unfinished : Bool) → (unfinished ≡ true → scans ≡ []) → unfinished ≡ both (eqb (length scans) 0) unfinished
-    go true none = rw (none refl)
-    go false none = sym (both-false (eqb (length scans) 0))
+    go : (open′ : Bool) → d .handover ≡ open′ → (l : List (List ℕ)) → scans ≡ l → open′ ≡ both (eqb (length l) 0) (keyLeft d)
+    go true e l f = rw (sym f ∙ s .ready .anew e) (sym (s .left e))
+    go false e [] f = sym (none-left d scans (s .ready) e f)
+    go false e (scan ∷ l) f = rw (ne-eqb (length (scan ∷ l)) 0 (λ z. omega arith))
 
 -- The dock counts the scans that the onlooker counts.
-same-count : (w : World) → Sound w → (scan : List ℕ)
-    → both (eqb (length scan) 18) (isCounted (w .dock) scan) ≡ isCountedBy (w .onlooker) (w .dock .handover) scan
+pub same-count : (w : World) → Sound w → (scan : List ℕ)
+    → both (eqb (length (asBytes scan)) 18) (isCounted (w .dock) (asBytes scan)) ≡ isCountedBy (w .onlooker) (keyLeft (w .dock)) (asBytes scan)
 unfolding isCounted listening isCountedBy
 same-count w s scan =
     let k = s .knows in
-    rw (k .1, k .2, ← still-open (w .dock) (w .onlooker .scans) (s .settled))
+    alike (eqb (length (asBytes scan)) 18) (k .1) (k .2) (still-open (w .dock) (w .onlooker .scans) (s .settled)) (phantom-same scan)
+  where
+    alike : (whole : Bool) {scanning on : Bool} {waiting command : ℕ} {handover unfinished phantom looks : Bool}
+        → scanning ≡ on → waiting ≡ command → handover ≡ unfinished → looks ≡ phantom
+        → both whole (both (both scanning (both (eqb waiting 0) (not handover))) (not phantom))
+        ≡ both whole (both (both on (both (eqb command 0) (not unfinished))) (not looks))
+    alike whole e f g h = rw (e, f, g, h)
+
+-- A scan that by its bytes does not overrun the queue does not as the dock goes on.
+pub calm-scan : (w : World) → Sound w → (scan : List ℕ) → overruns w (asBytes scan) ≡ false
+    → both (eqb (length (asBytes scan)) 18) (scanOverruns (w .dock) (asBytes scan)) ≡ false
+unfolding overruns scanOverruns changesOverrun turningBytes
+calm-scan w s scan calm = go (eqb (length bytes) 18) (isCounted d bytes) (rw (← same-count w s scan) at calm)
+  where
+    d : Dock
+    d = w .dock
+
+    bytes : List ℕ
+    bytes = asBytes scan
+
+    sent : ℕ
+    sent = length (waiting (d .keys .queue)) + length (turningBytes d bytes)
+
+    go : (whole counted : Bool) → both (both whole counted) (ltb 16 sent) ≡ false → both whole (both counted (changesOverrun d bytes)) ≡ false
+    go true true room =
+        turns-fit (d .mode) (d .types) (d .map) (d .contacts .closed) (countedOf (d .contacts) bytes .closed) 144 (ticked (d .keys)) (ltb-false 16 sent room)
+    go true false room = refl
+    go false counted room = refl
 
 -- One call.
-next-sound : (w : World) (call : Call) → Sound w → Sound (next w call)
+next-sound : (w : World) (call : Call) → Sound w → Sound (next ours w call)
 unfolding next sawScan sawSwap
 next-sound w (Scan scan) s =
     record {
-      range = scan-in-range (w .dock) scan (s .range);
+      range = scan-in-range (w .dock) (asBytes scan) (s .range);
       settled = rw (← same-count w s scan)
-          (scan-settled (w .dock) (w .onlooker .scans) scan (s .range) (s .settled));
-      knows = scan-knows (w .dock) (w .onlooker) (s .knows) (s .range) scan;
+          (scan-settled (w .dock) (w .onlooker .scans) (asBytes scan) (s .range) (s .settled));
+      knows = scan-knows (w .dock) (w .onlooker) (s .knows) (s .range) (keyLeft (w .dock)) (asBytes scan);
     }
 next-sound w (Swap map) s =
     record {
@@ -102,7 +145,7 @@ next-sound w (Swap map) s =
     }
   where
     go : (b : Bool) → Settled (swapOf (w .dock) map .dock) (pick b [] (w .onlooker .scans))
-        → Settled (swapOf (w .dock) map .dock) ((pick b (onlooker map (w .onlooker .scanning) (w .onlooker .waiting) []) (w .onlooker)) .scans)
+        → Settled (swapOf (w .dock) map .dock) ((pick b (onlooker map (w .onlooker .scanning) (w .onlooker .waiting) (w .onlooker .set) []) (w .onlooker)) .scans)
     go true t = t
     go false t = t
 next-sound w (Frame number) s =
@@ -123,12 +166,12 @@ pub record InStep (w : World) : Type 0 where
   pub follows : Follows (w .dock) (w .terminal)
   pub same : w .dock .mode .set ≡ w .set
 
-next-in-step : (w : World) (call : Call) → Sound w → either (isClearingCall call) (overrunsIn (w .dock) call) ≡ false → InStep w → InStep (next w call)
+next-in-step : (w : World) (call : Call) → Sound w → either (isClearingCall call) (overrunsIn w call) ≡ false → InStep w → InStep (next ours w call)
 unfolding next
 next-in-step w (Scan scan) s calm f =
     record {
-      follows = scan-follows (w .terminal) (w .dock) (w .onlooker .scans) scan (s .settled) (f .follows) (s .range) calm;
-      same = ap (λ (m : Mode). m .set) (scan-stays (w .dock) scan .3) ∙ f .same;
+      follows = scan-follows (w .terminal) (w .dock) (w .onlooker .scans) (asBytes scan) (s .settled) (f .follows) (s .range) (calm-scan w s scan calm);
+      same = ap (λ (m : Mode). m .set) (scan-stays (w .dock) (asBytes scan) .3) ∙ f .same;
     }
 next-in-step w (Swap map) s calm f =
     record {
@@ -148,16 +191,16 @@ next-in-step w Read s calm f =
     }
 
 -- Any calls.
-pub any-sound : (calls : List Call) (w : World) → Sound w → Sound (afterCalls w calls)
+pub any-sound : (calls : List Call) (w : World) → Sound w → Sound (afterCalls ours w calls)
 unfolding afterCalls
 any-sound [] w s = s
-any-sound (call ∷ calls) w s = any-sound calls (next w call) (next-sound w call s)
+any-sound (call ∷ calls) w s = any-sound calls (next ours w call) (next-sound w call s)
 
-pub any-in-step : (calls : List Call) (w : World) → Sound w → undisturbed w calls ≡ true → InStep w → InStep (afterCalls w calls)
+pub any-in-step : (calls : List Call) (w : World) → Sound w → undisturbed ours w calls ≡ true → InStep w → InStep (afterCalls ours w calls)
 unfolding afterCalls undisturbed
 any-in-step [] w s calm f = f
 any-in-step (call ∷ calls) w s calm f =
-    let disturbs = either (isClearingCall call) (overrunsIn (w .dock) call) in
-    let later = undisturbed (next w call) calls in
-    any-in-step calls (next w call) (next-sound w call s) (right-of-both (not disturbs) later calm)
+    let disturbs = either (isClearingCall call) (overrunsIn w call) in
+    let later = undisturbed ours (next ours w call) calls in
+    any-in-step calls (next ours w call) (next-sound w call s) (right-of-both (not disturbs) later calm)
     (next-in-step w call s (not-true disturbs (left-of-both (not disturbs) later calm)) f)

@@ -34,7 +34,8 @@ use Rattle.record.specs.Parts.{withKeys, withReplies, withQueue}
 use Rattle.record.specs.Power.{freshWith, powerOn}
 use Rattle.range.specs.Range.{inRange}
 use Rattle.range.proofs.Ranges.{good-keys-queue, in-range-keys, in-range-replies}
-use Rattle.runs.specs.Calls.{Call, Scan, Swap, Frame, Read}
+use Rattle.runs.specs.Calls.{Call, Scan, Swap, Frame, Read, asBytes}
+use Rattle.runs.specs.Machines.{ours}
 use Rattle.runs.specs.Worlds.{World, woken, next, afterCalls}
 use Rattle.agreement.proofs.AnyCalls.{Sound, woken-sound, any-sound}
 
@@ -116,29 +117,29 @@ pub record Steady (w : World) : Type 0 where
   pub sound : Sound w
   pub roomy : length (w .dock .replies .bytes) ≡ 3
 
-woken-steady : Steady woken
+woken-steady : Steady (woken ours)
 unfolding woken powerOn freshWith
 woken-steady = record { sound = woken-sound; roomy = places-repliesOf (0xaa ∷ []) (omega arith) }
 
-next-roomy : (w : World) (call : Call) → Roomy (w .dock) → Roomy (next w call .dock)
+next-roomy : (w : World) (call : Call) → Roomy (w .dock) → Roomy (next ours w call .dock)
 unfolding next
-next-roomy w (Scan scan) r = rw (scan-replies (w .dock) scan) r
+next-roomy w (Scan scan) r = rw (scan-replies (w .dock) (asBytes scan)) r
 next-roomy w (Swap map) r = rw (swap-replies (w .dock) map) r
 next-roomy w (Frame number) r = frame-roomy (w .dock) number r
 next-roomy w Read r = read-roomy (w .dock) r
 
-pub next-steady : (w : World) (call : Call) → Steady w → Steady (next w call)
+pub next-steady : (w : World) (call : Call) → Steady w → Steady (next ours w call)
 unfolding afterCalls
 next-steady w call s = record { sound = any-sound (call ∷ []) w (s .sound); roomy = next-roomy w call (s .roomy) }
 
-pub any-steady : (calls : List Call) (w : World) → Steady w → Steady (afterCalls w calls)
+pub any-steady : (calls : List Call) (w : World) → Steady w → Steady (afterCalls ours w calls)
 unfolding afterCalls
 any-steady [] w s = s
-any-steady (call ∷ calls) w s = any-steady calls (next w call) (next-steady w call s)
+any-steady (call ∷ calls) w s = any-steady calls (next ours w call) (next-steady w call s)
 
 -- Any world that calls lead to.
-pub reached-steady : (calls : List Call) → Steady (afterCalls woken calls)
-reached-steady calls = any-steady calls woken woken-steady
+pub reached-steady : (calls : List Call) → Steady (afterCalls ours (woken ours) calls)
+reached-steady calls = any-steady calls (woken ours) woken-steady
 
 -- As many bytes wait as the lengths say: at most 16 in the queue, and at most three replies.
 pub keys-counted : (w : World) → Sound w → length (waiting (w .dock .keys .queue)) ≡ w .dock .keys .queue .length
@@ -158,8 +159,8 @@ pub replies-few : (w : World) → Steady w → length (waitingReplies (w .dock .
 replies-few w s = rw (replies-counted w s) (replies-short (w .dock .replies) (in-range-replies (w .dock) (s .sound .range)))
 
 -- After any calls.
-pub queue-bounded : (calls : List Call) → length (waiting (afterCalls woken calls .dock .keys .queue)) ≤ 16
-queue-bounded calls = keys-few (afterCalls woken calls) (reached-steady calls .sound)
+pub queue-bounded : (calls : List Call) → length (waiting (afterCalls ours (woken ours) calls .dock .keys .queue)) ≤ 16
+queue-bounded calls = keys-few (afterCalls ours (woken ours) calls) (reached-steady calls .sound)
 
-pub replies-bounded : (calls : List Call) → length (waitingReplies (afterCalls woken calls .dock .replies)) ≤ 3
-replies-bounded calls = replies-few (afterCalls woken calls) (reached-steady calls)
+pub replies-bounded : (calls : List Call) → length (waitingReplies (afterCalls ours (woken ours) calls .dock .replies)) ≤ 3
+replies-bounded calls = replies-few (afterCalls ours (woken ours) calls) (reached-steady calls)

@@ -23,6 +23,7 @@ use Rattle.replies.proofs.ReplyMeaning.{waiting-repliesOf}
 use Rattle.record.specs.declared.Dock.{Dock}
 use Rattle.record.specs.Parts.{withKeys, withReplies, withQueue}
 use Rattle.runs.specs.Calls.{Call, Read}
+use Rattle.runs.specs.Machines.{ours}
 use Rattle.runs.specs.Worlds.{World, woken, next, afterCalls}
 use Rattle.telling.proofs.Lessening.{toRead, held-most, handed-less}
 use Rattle.agreement.proofs.Ready.{Settled}
@@ -70,7 +71,7 @@ module _ (w : World) (s : Steady w) where
   Less t = stillToRead (t .dock) < stillToRead (w .dock)
 
   -- While something waits, a read leaves less to be read,
-  pub read-brings-on : quiet (w .dock) ≡ false → stillToRead (next w Read .dock) < stillToRead (w .dock)
+  pub read-brings-on : quiet (w .dock) ≡ false → stillToRead (next ours w Read .dock) < stillToRead (w .dock)
   unfolding d Less next readOf read replyTaken keyByteTaken remembering
   read-brings-on waits =
       let q = d .keys .queue in
@@ -89,44 +90,44 @@ module _ (w : World) (s : Steady w) where
       omega (arith, closing-less rest, ap length (waiting-repliesOf (drop 1 replies)), fewer replies first)))
 
   -- and where nothing does, it changes nothing.
-  pub read-of-quiet : quiet (w .dock) ≡ true → next w Read .dock ≡ w .dock
+  pub read-of-quiet : quiet (w .dock) ≡ true → next ours w Read .dock ≡ w .dock
   unfolding d next readOf read closing
   read-of-quiet e =
       let none = left-of-both (eqb (d .replies .length) 0) (eqb (d .keys .queue .length) 0) e in
       let empty = right-of-both (eqb (d .replies .length) 0) (eqb (d .keys .queue .length) 0) e in
       rw (s .sound .range, none, empty, quiet-shut d (w .onlooker .scans) (s .sound .settled) e)
 
-stays-quiet : (n : ℕ) (w : World) → Steady w → quiet (w .dock) ≡ true → quiet (afterCalls w (replicate n Read) .dock) ≡ true
+stays-quiet : (n : ℕ) (w : World) → Steady w → quiet (w .dock) ≡ true → quiet (afterCalls ours w (replicate n Read) .dock) ≡ true
 unfolding afterCalls
 stays-quiet zero w s e = e
-stays-quiet (suc n) w s e = stays-quiet n (next w Read) (next-steady w Read s) (rw (read-of-quiet w s e) e)
+stays-quiet (suc n) w s e = stays-quiet n (next ours w Read) (next-steady w Read s) (rw (read-of-quiet w s e) e)
 
 -- As many reads as there is to read leave nothing waiting.
-reads-all : (n : ℕ) (w : World) → Steady w → stillToRead (w .dock) ≤ n → quiet (afterCalls w (replicate n Read) .dock) ≡ true
+reads-all : (n : ℕ) (w : World) → Steady w → stillToRead (w .dock) ≤ n → quiet (afterCalls ours w (replicate n Read) .dock) ≡ true
 unfolding afterCalls
 reads-all zero w s none =
     let replies = eq-eqb (w .dock .replies .length) 0 (omega (arith, replies-counted w s)) in
     let keys = eq-eqb (w .dock .keys .queue .length) 0 (omega (arith, keys-counted w (s .sound))) in
     rw (replies, keys)
-reads-all (suc n) w s most = go (quiet (w .dock)) refl (reads-all n (next w Read) (next-steady w Read s))
+reads-all (suc n) w s most = go (quiet (w .dock)) refl (reads-all n (next ours w Read) (next-steady w Read s))
   where
     go : (b : Bool) → quiet (w .dock) ≡ b
-        → (stillToRead (next w Read .dock) ≤ n → quiet (afterCalls (next w Read) (replicate n Read) .dock) ≡ true)
-        → quiet (afterCalls (next w Read) (replicate n Read) .dock) ≡ true
+        → (stillToRead (next ours w Read .dock) ≤ n → quiet (afterCalls ours (next ours w Read) (replicate n Read) .dock) ≡ true)
+        → quiet (afterCalls ours (next ours w Read) (replicate n Read) .dock) ≡ true
     go true e later = stays-quiet (suc n) w s e
     go false e later = later (omega (arith, read-brings-on w s e))
 
 -- 851: three replies, 16 key bytes, and eight for each of 104 keys.
-pub enough-reads : (w : World) → Steady w → (n : ℕ) → 851 ≤ n → quiet (afterCalls w (replicate n Read) .dock) ≡ true
+pub enough-reads : (w : World) → Steady w → (n : ℕ) → 851 ≤ n → quiet (afterCalls ours w (replicate n Read) .dock) ≡ true
 enough-reads w s n enough = reads-all n w s (omega (arith, keys-few w (s .sound), replies-few w s, held-most lastKey (w .dock .keys .held)))
 
 -- After any calls,
-pub reads-quieten : (calls : List Call) (n : ℕ) → 851 ≤ n → quiet (afterCalls (afterCalls woken calls) (replicate n Read) .dock) ≡ true
-reads-quieten calls n enough = enough-reads (afterCalls woken calls) (reached-steady calls) n enough
+pub reads-quieten : (calls : List Call) (n : ℕ) → 851 ≤ n → quiet (afterCalls ours (afterCalls ours (woken ours) calls) (replicate n Read) .dock) ≡ true
+reads-quieten calls n enough = enough-reads (afterCalls ours (woken ours) calls) (reached-steady calls) n enough
 
 -- so that no handover is left open.
-pub handover-ends : (calls : List Call) (n : ℕ) → 851 ≤ n → afterCalls (afterCalls woken calls) (replicate n Read) .dock .handover ≡ false
+pub handover-ends : (calls : List Call) (n : ℕ) → 851 ≤ n → afterCalls ours (afterCalls ours (woken ours) calls) (replicate n Read) .dock .handover ≡ false
 handover-ends calls n enough =
-    let end = afterCalls (afterCalls woken calls) (replicate n Read) in
-    let sound = any-sound (replicate n Read) (afterCalls woken calls) (reached-steady calls .sound) in
+    let end = afterCalls ours (afterCalls ours (woken ours) calls) (replicate n Read) in
+    let sound = any-sound (replicate n Read) (afterCalls ours (woken ours) calls) (reached-steady calls .sound) in
     quiet-shut (end .dock) (end .onlooker .scans) (sound .settled) (reads-quieten calls n enough)

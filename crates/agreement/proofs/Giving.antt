@@ -17,6 +17,7 @@ use Rattle.replies.proofs.ReplyMeaning.{waiting-repliesOf}
 use Rattle.record.specs.declared.Dock.{Dock}
 use Rattle.record.specs.Parts.{withKeys, withReplies, withQueue}
 use Rattle.runs.specs.Calls.{Call, Read}
+use Rattle.runs.specs.Machines.{ours}
 use Rattle.runs.specs.Worlds.{World, woken, next, afterCalls}
 use Rattle.runs.specs.Bytes.{foremost}
 use Rattle.basics.proofs.Cases.{by-cases, picked}
@@ -47,12 +48,12 @@ read-gives w s = rw (s .sound .range) (go (waitingReplies (d .replies)) (waiting
 
 -- So it is after any calls.
 pub any-read-gives : (calls : List Call)
-    → readOf (afterCalls woken calls .dock) .given
-    ≡ foremost (waitingReplies (afterCalls woken calls .dock .replies)) (waiting (afterCalls woken calls .dock .keys .queue))
-any-read-gives calls = read-gives (afterCalls woken calls) (reached-steady calls)
+    → readOf (afterCalls ours (woken ours) calls .dock) .given
+    ≡ foremost (waitingReplies (afterCalls ours (woken ours) calls .dock .replies)) (waiting (afterCalls ours (woken ours) calls .dock .keys .queue))
+any-read-gives calls = read-gives (afterCalls ours (woken ours) calls) (reached-steady calls)
 
 -- It leaves the replies behind the oldest, in order; of the key bytes see Queue.
-pub read-leaves : (w : World) → Steady w → waitingReplies (next w Read .dock .replies) ≡ drop 1 (waitingReplies (w .dock .replies))
+pub read-leaves : (w : World) → Steady w → waitingReplies (next ours w Read .dock .replies) ≡ drop 1 (waitingReplies (w .dock .replies))
 unfolding waitingReplies next readOf read replyTaken keyByteTaken remembering
 read-leaves w s =
     let d = w .dock in

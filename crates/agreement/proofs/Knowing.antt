@@ -1,15 +1,15 @@
--- What the onlooker knows is so: the map, whether scanning is on, and the command that waits are those of the dock, whatever is called.
--- And the set stays where no byte clears the queue. Assumes nothing.
-use mathlib.Core.Path.{_≡_, refl, ap, _∙_}
+-- What the onlooker knows is so: the map, whether scanning is on, the command that waits and the set are those of the dock, whatever is
+-- called. And the set stays where no byte clears the queue. Assumes nothing.
+use mathlib.Core.Path.{_≡_, refl, sym, ap, ap₂, _∙_}
 use mathlib.Core.Bool.{Bool, true, false}
 use mathlib.Core.List.{List, [], _∷_}
-use Prim.Native.Nat.{ℕ, _-_}
+use Prim.Native.Nat.{ℕ, _-_, _≤_, _<_}
 use native.Mathlib.Omega.{arith}
-use borrow.Author.Tests.{eqb-true, eqb-false, leb-true, leb-false, ne-eqb}
+use borrow.Author.Tests.{eqb-true, eqb-false, leb-true, leb-false, ne-eqb, lt-leb}
 use lib.Dec.{eqb, leb}
-use Rattle.basics.specs.Choice.{pick, between}
-use Rattle.basics.proofs.Cases.{by-cases, picked}
-use Rattle.basics.proofs.Flags.{right-of-both}
+use Rattle.basics.specs.Choice.{pick, both, between}
+use Rattle.basics.proofs.Cases.{by-cases, picked, two-by-cases}
+use Rattle.basics.proofs.Flags.{right-of-both, both-false}
 use Rattle.commands.specs.Commands.{cleared, readied, enabled, defaulted, disabled, typed, restarted, obeyed, replying, commanded}
 use Rattle.dock.specs.Closing.{closing, withHanded}
 use Rattle.dock.specs.Frame.{tookFrame, frameOf}
@@ -23,10 +23,13 @@ use Rattle.host.specs.Values.{rightValue, valued, tookValue, tookByte}
 use Rattle.keying.specs.Handover.{handedOver}
 use Rattle.range.specs.Range.{inRange, takesValue}
 use Rattle.record.specs.declared.Dock.{Dock}
+use Rattle.record.specs.declared.Mode.{Mode}
 use Rattle.record.specs.Parts.{withWaiting}
 use Rattle.record.specs.Power.{freshWith}
 use Rattle.runs.specs.Calls.{clears, carries, isClearing}
-use Rattle.runs.specs.Onlookers.{Onlooker, onlooker, sawScan, isMap, sawSwap, scanningAfter, waitingAfter, sawByte, sawFrame}
+use Rattle.runs.specs.Onlookers.{Onlooker, onlooker, sawScan, isMap, sawSwap, scanningAfter, waitingAfter, setAfter, sawByte, sawFrame}
+use Rattle.runs.specs.Rules.{oneOf, valuesFor}
+use Rattle.agreement.proofs.Rules.{waits-same, right-same}
 use Rattle.agreement.proofs.Framed.{Mild, mild, obeyed-mild}
 use Rattle.agreement.proofs.Staying.{Stays, scan-stays, read-stays, swap-stays}
 
@@ -34,6 +37,29 @@ use Rattle.agreement.proofs.Staying.{Stays, scan-stays, read-stays, swa
 unturned : (byte : ℕ) (scanning : Bool) → (byte ≡ 0xf4 → ⊥) → (byte ≡ 0xf5 → ⊥) → (byte ≡ 0xff → ⊥) → scanning ≡ scanningAfter byte scanning
 unfolding scanningAfter
 unturned byte scanning a b c = rw (ne-eqb byte 0xf4 a, ne-eqb byte 0xf5 b, ne-eqb byte 0xff c)
+
+-- One that chooses no set, among the commands,
+unchosen : (byte set : ℕ) → (byte ≡ 0xf5 → ⊥) → (byte ≡ 0xf6 → ⊥) → (byte ≡ 0xff → ⊥)
+    → set ≡ pick (oneOf byte (0xf5 ∷ 0xf6 ∷ 0xff ∷ [])) 2 set
+unfolding oneOf
+unchosen byte set a b c = rw (ne-eqb byte 0xf5 a, ne-eqb byte 0xf6 b, ne-eqb byte 0xff c)
+
+-- which are no values,
+high-value : (value : ℕ) → 0xed ≤ value → rightValue 0xf0 value ≡ false
+unfolding rightValue
+high-value value h = rw (lt-leb value 3 (omega arith)) (both-false (leb 1 value))
+
+high-chosen : (byte waiting set : ℕ) → 0xed ≤ byte → setAfter byte waiting set ≡ pick (oneOf byte (0xf5 ∷ 0xf6 ∷ 0xff ∷ [])) 2 set
+unfolding setAfter
+high-chosen byte waiting set high =
+    let none : oneOf byte (valuesFor 0xf0) ≡ false = right-same 0xf0 byte ∙ high-value byte high in
+    rw (none, both-false (eqb waiting 0xf0))
+
+-- and among the values, which are no commands.
+low-chosen : (byte : ℕ) → byte < 0xed → oneOf byte (0xf5 ∷ 0xf6 ∷ 0xff ∷ []) ≡ false
+unfolding oneOf
+low-chosen byte low =
+    rw (ne-eqb byte 0xf5 (λ e. omega arith), ne-eqb byte 0xf6 (λ e. omega arith), ne-eqb byte 0xff (λ e. omega arith))
 
 module _ (d : Dock) (byte : ℕ) where
   Turned : Dock → Type 0
@@ -76,7 +102,7 @@ module _ (d : Dock) (byte : ℕ) where
 
   took-waiting : tookByte byte d .waiting ≡ waitingAfter byte (d .waiting)
   unfolding tookByte commanded tookValue waitingAfter
-  took-waiting = go (eqb byte 0xfe) (leb 0xed byte) (rightValue (d .waiting) byte)
+  took-waiting = rw (waits-same byte, right-same (d .waiting) byte) (go (eqb byte 0xfe) (leb 0xed byte) (rightValue (d .waiting) byte))
     where
       go : (again command right : Bool)
           → (pick again (replying (d .given ∷ []) d)
@@ -105,6 +131,59 @@ module _ (d : Dock) (byte : ℕ) where
       (picked Same (eqb (d .waiting) 0xed) _ _ refl (picked Same (eqb (d .waiting) 0xf0) _ _ refl (picked Same (eqb (d .waiting) 0xf3) _ _ refl refl)))
       refl))
 
+  -- A command: F5, F6 and FF choose set 2, and no other chooses one.
+  Chosen : Dock → Type 0
+  Chosen e = e .mode .set ≡ pick (oneOf byte (0xf5 ∷ 0xf6 ∷ 0xff ∷ [])) 2 (d .mode .set)
+
+  obeyed-chosen : Chosen (obeyed byte d)
+  unfolding obeyed oneOf freshWith Chosen
+  obeyed-chosen =
+      by-cases Chosen (eqb byte 0xf0) (readied d) _ (λ h. rw (eqb-true byte 0xf0 h))
+      (λ h. by-cases Chosen (eqb byte 0xf4) (enabled d) _ (λ h. rw (eqb-true byte 0xf4 h))
+      (λ h. by-cases Chosen (eqb byte 0xf5) (disabled d) _ (λ h. rw (eqb-true byte 0xf5 h))
+      (λ off. by-cases Chosen (eqb byte 0xf6) (defaulted d) _ (λ h. rw (eqb-true byte 0xf6 h))
+      (λ default. by-cases Chosen (between 0xf7 0xfa byte) (typed (byte - 0xf7) d) _
+      (λ h.
+      let most = leb-true byte 0xfa (right-of-both (leb 0xf7 byte) (leb byte 0xfa) h) in
+      unchosen byte (d .mode .set) (eqb-false byte 0xf5 off) (eqb-false byte 0xf6 default) (λ e. omega arith))
+      (λ h. by-cases Chosen (between 0xfb 0xfd byte) (cleared d) _
+      (λ h.
+      let most = leb-true byte 0xfd (right-of-both (leb 0xfb byte) (leb byte 0xfd) h) in
+      unchosen byte (d .mode .set) (eqb-false byte 0xf5 off) (eqb-false byte 0xf6 default) (λ e. omega arith))
+      (λ h. by-cases Chosen (eqb byte 0xff) (restarted d) d (λ h. rw (eqb-true byte 0xff h))
+      (λ reset. unchosen byte (d .mode .set) (eqb-false byte 0xf5 off) (eqb-false byte 0xf6 default) (eqb-false byte 0xff reset))))))))
+
+  -- A value: that of F0 is the set.
+  value-chosen : byte < 0xed → tookValue byte d .mode .set ≡ setAfter byte (d .waiting) (d .mode .set)
+  unfolding tookValue valued setAfter
+  value-chosen low =
+      rw (low-chosen byte low, right-same 0xf0 byte) (go (eqb (d .waiting) 0xf0) refl)
+    where
+      Same : Dock → Type 0
+      Same e = e .mode .set ≡ d .mode .set
+
+      go : (choosing : Bool) → eqb (d .waiting) 0xf0 ≡ choosing
+          → tookValue byte d .mode .set ≡ pick (both choosing (rightValue 0xf0 byte)) byte (d .mode .set)
+      go true e =
+          rw (eqb-true (d .waiting) 0xf0 e)
+          (two-by-cases (λ (x : Dock) (set : ℕ). x .mode .set ≡ set) (rightValue 0xf0 byte) _ _ _ _ (λ right. refl) (λ wrong. refl))
+      go false e =
+          picked Same (rightValue (d .waiting) byte) _ _
+          (picked Same (eqb (d .waiting) 0xed) _ _ refl (rw e (picked Same (eqb (d .waiting) 0xf3) _ _ refl refl)))
+          refl
+
+  took-chosen : tookByte byte d .mode .set ≡ setAfter byte (d .waiting) (d .mode .set)
+  unfolding tookByte commanded Chosen
+  took-chosen =
+      let To : Dock → Type 0 = λ (e : Dock). e .mode .set ≡ setAfter byte (d .waiting) (d .mode .set) in
+      by-cases To (eqb byte 0xfe) (replying (d .given ∷ []) d) _
+      (λ h.
+      let is = eqb-true byte 0xfe h in
+      unchosen byte (d .mode .set) (λ e. omega arith) (λ e. omega arith) (λ e. omega arith) ∙ sym (high-chosen byte (d .waiting) (d .mode .set) (omega arith)))
+      (λ h. by-cases To (leb 0xed byte) (commanded byte d) (tookValue byte d)
+      (λ high. obeyed-chosen ∙ sym (high-chosen byte (d .waiting) (d .mode .set) (leb-true 0xed byte high)))
+      (λ low. value-chosen (leb-false 0xed byte low)))
+
   -- Only F0 and its value choose a set.
   took-set : Mild byte → (d .waiting ≡ 0xf0 → ⊥) → tookByte byte d .mode .set ≡ d .mode .set
   unfolding tookByte commanded tookValue valued
@@ -121,7 +200,7 @@ module _ (d : Dock) (byte : ℕ) where
 
 -- What the onlooker knows is so.
 abbrev pub Knows : Dock → Onlooker → Type 0
-Knows d o = (d .map ≡ o .map) × (d .scanning ≡ o .scanning) × (d .waiting ≡ o .waiting)
+Knows d o = (d .map ≡ o .map) × (d .scanning ≡ o .scanning) × (d .waiting ≡ o .waiting) × (d .mode .set ≡ o .set)
 
 closing-knows : (e : Dock) (o : Onlooker) → Knows e o → Knows (closing e) o
 unfolding closing
@@ -132,25 +211,25 @@ unfolding closing
 closing-set e = picked (λ (x : Dock). x .mode .set ≡ e .mode .set) (e .handover) (withHanded e (handedOver (e .keys) (e .mode) (e .types))) e refl refl
 
 module _ (d : Dock) (o : Onlooker) (k : Knows d o) (range : inRange d ≡ true) where
-  pub scan-knows : (scan : List ℕ) → Knows (scanOf d scan .dock) (sawScan (d .handover) scan o)
+  pub scan-knows : (left : Bool) (scan : List ℕ) → Knows (scanOf d scan .dock) (sawScan left scan o)
   unfolding sawScan
-  scan-knows scan =
+  scan-knows left scan =
       let s = scan-stays d scan in
-      (s .0 ∙ k .0, s .1 ∙ k .1, s .2 ∙ k .2)
+      (s .0 ∙ k .0, s .1 ∙ k .1, s .2 ∙ k .2, ap (λ (m : Mode). m .set) (s .3) ∙ k .3)
 
   pub read-knows : Knows (readOf d .dock) o
   read-knows =
       let s = read-stays d in
-      (s .0 ∙ k .0, s .1 ∙ k .1, s .2 ∙ k .2)
+      (s .0 ∙ k .0, s .1 ∙ k .1, s .2 ∙ k .2, ap (λ (m : Mode). m .set) (s .3) ∙ k .3)
 
   pub swap-knows : (map : List ℕ) → Knows (swapOf d map .dock) (sawSwap map o)
   unfolding sawSwap
   swap-knows map = go (isMap map) (swap-stays d map range)
     where
       go : (b : Bool) → Stays (pick b map (d .map)) d (swapOf d map .dock)
-          → Knows (swapOf d map .dock) (pick b (onlooker map (o .scanning) (o .waiting) []) o)
-      go true s = (s .0, s .1 ∙ k .1, s .2 ∙ k .2)
-      go false s = (s .0 ∙ k .0, s .1 ∙ k .1, s .2 ∙ k .2)
+          → Knows (swapOf d map .dock) (pick b (onlooker map (o .scanning) (o .waiting) (o .set) []) o)
+      go true s = (s .0, s .1 ∙ k .1, s .2 ∙ k .2, ap (λ (m : Mode). m .set) (s .3) ∙ k .3)
+      go false s = (s .0 ∙ k .0, s .1 ∙ k .1, s .2 ∙ k .2, ap (λ (m : Mode). m .set) (s .3) ∙ k .3)
 
   pub frame-knows : (number : ℕ) → Knows (frameOf d number .dock) (sawFrame (unpackedOf number) o)
   unfolding frameOf tookFrame sawByte
@@ -158,8 +237,12 @@ module _ (d : Dock) (o : Onlooker) (k : Knows d o) (range : inRange d ≡ true) 
     where
       go : (u : Unpacked) → Knows (tookFrame u d .dock) (sawFrame u o)
       go (Byte byte) =
-          closing-knows (tookByte byte d) (sawByte byte o)
-          (took-map d byte ∙ k .0, took-scanning d byte ∙ ap (scanningAfter byte) (k .1), took-waiting d byte ∙ ap (waitingAfter byte) (k .2))
+          closing-knows (tookByte byte d) (sawByte byte o) (
+            took-map d byte ∙ k .0,
+            took-scanning d byte ∙ ap (scanningAfter byte) (k .1),
+            took-waiting d byte ∙ ap (waitingAfter byte) (k .2),
+            took-chosen d byte ∙ ap₂ (setAfter byte) (k .2) (k .3),
+          )
       go Broken = closing-knows (replying (0xfe ∷ []) d) o k
       go TooLarge = k
 

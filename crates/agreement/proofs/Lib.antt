@@ -1,5 +1,9 @@
+pub mod Rules
+pub mod Left
+pub mod Overrunning
 pub mod Ready
 pub mod Following
+pub mod SaidHeld
 pub mod Scanned
 pub mod Swapped
 pub mod Framed

@@ -34,14 +34,15 @@ use Rattle.record.specs.declared.Keys.{Keys}
 use Rattle.record.specs.declared.Dock.{Dock}
 use Rattle.record.specs.Parts.{withKeys, withReplies, withQueue}
 use Rattle.range.specs.Range.{inRange}
-use Rattle.runs.specs.Calls.{Call, Scan, Swap, Frame, Read, clears, carries, isClearing, isClearingCall}
+use Rattle.runs.specs.Calls.{Call, Scan, Swap, Frame, Read, asBytes, clears, carries, isClearing, isClearingCall}
+use Rattle.runs.specs.Machines.{ours}
 use Rattle.runs.specs.Worlds.{World, woken, next, afterCalls}
 use Rattle.runs.specs.Runs.{overrunsIn, undisturbed}
 use Rattle.runs.specs.Bytes.{closingBytes, frameBytes, readBytes, queuedBy, keyBytesOf, givenBy, queuedIn, givenIn}
 use Rattle.basics.proofs.Cases.{by-cases, picked, neither-first}
 use Rattle.agreement.proofs.Framed.{mild, obeyed-mild}
 use Rattle.agreement.proofs.Taken.{some-wait}
-use Rattle.agreement.proofs.AnyCalls.{Sound, woken-sound, any-sound}
+use Rattle.agreement.proofs.AnyCalls.{Sound, calm-scan, woken-sound, any-sound}
 use Rattle.agreement.proofs.Queuing.{bytesOf, closing-bytes, scan-bytes}
 
 module _ (d : Dock) where
@@ -119,24 +120,24 @@ read-bytes w s =
     (sym (closing-bytes (remembering (withReplies d (repliesBehind (d .replies))) (oldestReply (d .replies))))))
 
 -- One call.
-pub call-keeps-bytes : (w : World) (call : Call) → Sound w → either (isClearingCall call) (overrunsIn (w .dock) call) ≡ false
-    → waiting (w .dock .keys .queue) ++ queuedBy (w .dock) call ≡ givenBy (w .dock) call ++ waiting (next w call .dock .keys .queue)
+pub call-keeps-bytes : (w : World) (call : Call) → Sound w → either (isClearingCall call) (overrunsIn w call) ≡ false
+    → waiting (w .dock .keys .queue) ++ queuedBy (w .dock) call ≡ givenBy (w .dock) call ++ waiting (next ours w call .dock .keys .queue)
 unfolding next
-call-keeps-bytes w (Scan scan) s calm = sym (scan-bytes (w .dock) scan (s .range) calm)
+call-keeps-bytes w (Scan scan) s calm = sym (scan-bytes (w .dock) (asBytes scan) (s .range) (calm-scan w s scan calm))
 call-keeps-bytes w (Swap map) s calm = sym (swap-bytes (w .dock) map (s .range))
 call-keeps-bytes w (Frame number) s calm =
     sym (frame-bytes (w .dock) number (s .range) (neither-first (isClearingCall (Frame number)) false calm))
 call-keeps-bytes w Read s calm = read-bytes w s
 
 -- Any calls.
-pub bytes-kept : (calls : List Call) (w : World) → Sound w → undisturbed w calls ≡ true
-    → waiting (w .dock .keys .queue) ++ queuedIn w calls ≡ givenIn w calls ++ waiting (afterCalls w calls .dock .keys .queue)
+pub bytes-kept : (calls : List Call) (w : World) → Sound w → undisturbed ours w calls ≡ true
+    → waiting (w .dock .keys .queue) ++ queuedIn w calls ≡ givenIn w calls ++ waiting (afterCalls ours w calls .dock .keys .queue)
 unfolding afterCalls undisturbed queuedIn givenIn
 bytes-kept [] w s calm = append-nil (bytesOf (w .dock))
 bytes-kept (call ∷ calls) w s calm =
-    let then = next w call in
-    let disturbs = either (isClearingCall call) (overrunsIn (w .dock) call) in
-    let later = undisturbed then calls in
+    let then = next ours w call in
+    let disturbs = either (isClearingCall call) (overrunsIn w call) in
+    let later = undisturbed ours then calls in
     let now = call-keeps-bytes w call s (not-true disturbs (left-of-both (not disturbs) later calm)) in
     let on = bytes-kept calls then (any-sound (call ∷ []) w s) (right-of-both (not disturbs) later calm) in
     let queued = queuedBy (w .dock) call in
@@ -145,10 +146,10 @@ bytes-kept (call ∷ calls) w s calm =
     ∙ ap (λ (l : List ℕ). l ++ queuedIn then calls) now
     ∙ append-assoc given (bytesOf (then .dock)) (queuedIn then calls)
     ∙ ap (λ (l : List ℕ). given ++ l) on
-    ∙ sym (append-assoc given (givenIn then calls) (bytesOf (afterCalls then calls .dock)))
+    ∙ sym (append-assoc given (givenIn then calls) (bytesOf (afterCalls ours then calls .dock)))
 
 -- So it is from any moment since power-on.
-pub bytes-kept-since : (earlier calls : List Call) → undisturbed (afterCalls woken earlier) calls ≡ true
-    → waiting (afterCalls woken earlier .dock .keys .queue) ++ queuedIn (afterCalls woken earlier) calls
-    ≡ givenIn (afterCalls woken earlier) calls ++ waiting (afterCalls (afterCalls woken earlier) calls .dock .keys .queue)
-bytes-kept-since earlier calls calm = bytes-kept calls (afterCalls woken earlier) (any-sound earlier woken woken-sound) calm
+pub bytes-kept-since : (earlier calls : List Call) → undisturbed ours (afterCalls ours (woken ours) earlier) calls ≡ true
+    → waiting (afterCalls ours (woken ours) earlier .dock .keys .queue) ++ queuedIn (afterCalls ours (woken ours) earlier) calls
+    ≡ givenIn (afterCalls ours (woken ours) earlier) calls ++ waiting (afterCalls ours (afterCalls ours (woken ours) earlier) calls .dock .keys .queue)
+bytes-kept-since earlier calls calm = bytes-kept calls (afterCalls ours (woken ours) earlier) (any-sound earlier (woken ours) woken-sound) calm

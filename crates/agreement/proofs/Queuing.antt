@@ -25,12 +25,11 @@ use Rattle.record.specs.declared.Keys.{Keys}
 use Rattle.record.specs.declared.Dock.{Dock}
 use Rattle.record.specs.Parts.{withKeys}
 use Rattle.range.specs.Range.{inRange}
-use Rattle.runs.specs.Calls.{Scan}
-use Rattle.runs.specs.Runs.{changesOverrun, overruns}
-use Rattle.runs.specs.Bytes.{repeatBytes, changeBytes, heardBytes, closingBytes, scanBytes, queuedBy}
+use Rattle.runs.specs.Bytes.{repeatBytes, changeBytes, heardBytes, closingBytes, scanBytes}
 use Rattle.telling.specs.Queued.{turnBytes}
 use Rattle.basics.proofs.Cases.{two-by-cases}
 use Rattle.telling.proofs.Whole.{turns-whole, handed-whole}
+use Rattle.agreement.proofs.Overrunning.{changesOverrun, scanOverruns}
 use Rattle.agreement.proofs.Following.{none-wait}
 
 -- What waits in a dock.
@@ -92,8 +91,8 @@ module _ (d : Dock) (scan : List ℕ) where
           (turns-whole (d .mode) (d .types) (d .map) 144 (d .contacts .closed) (countedOf (d .contacts) scan .closed) (ticked (d .keys)) room)
           ∙ append-assoc (bytesOf d) turned (repeats then)
 
-  scanned-bytes : overruns d scan ≡ false → bytesOf (scanned d scan) ≡ bytesOf d ++ scanBytes d scan
-  unfolding scanned scanBytes overruns isCounted
+  scanned-bytes : scanOverruns d scan ≡ false → bytesOf (scanned d scan) ≡ bytesOf d ++ scanBytes d scan
+  unfolding scanned scanBytes scanOverruns isCounted
   scanned-bytes = go (listening d)
     where
       go : (hears : Bool) → both (both hears (not (isPhantom scan))) (changesOverrun d scan) ≡ false
@@ -102,12 +101,12 @@ module _ (d : Dock) (scan : List ℕ) where
       go false room = closing-bytes d
 
   -- The call, refused or not.
-  pub scan-bytes : inRange d ≡ true → both (eqb (length scan) 18) (overruns d scan) ≡ false
-      → bytesOf (scanOf d scan .dock) ≡ bytesOf d ++ queuedBy d (Scan scan)
+  pub scan-bytes : inRange d ≡ true → both (eqb (length scan) 18) (scanOverruns d scan) ≡ false
+      → bytesOf (scanOf d scan .dock) ≡ bytesOf d ++ pick (isAccepted (scanOf d scan .answer)) (scanBytes d scan) []
   unfolding scanOf
   scan-bytes range = rw range (go (eqb (length scan) 18))
     where
-      go : (whole : Bool) → both whole (overruns d scan) ≡ false
+      go : (whole : Bool) → both whole (scanOverruns d scan) ≡ false
           → bytesOf ((pick whole (answered Accepted (scanned d scan)) (answered ScanLength d)) .dock)
           ≡ bytesOf d
           ++ pick (isAccepted ((pick whole (answered Accepted (scanned d scan)) (answered ScanLength d)) .answer)) (scanBytes d scan) []

@@ -24,6 +24,8 @@ use Rattle.basics.proofs.Cases.{by-cases, never}
 use Rattle.telling.proofs.Held.{none-agree, contact-open}
 use Rattle.telling.proofs.Handing.{handed-outside, handed-all, handed-waits}
 use Rattle.telling.proofs.Repeating.{handed-repeat}
+use Rattle.runs.specs.Machines.{keyLeft}
+use Rattle.agreement.proofs.Left.{handed-stuck}
 
 -- The map is a map; the contacts are what the counted scans make of them; the held keys are those whose contacts are closed, unless a
 -- handover is open, and then no scan has been counted since the swap.
@@ -41,10 +43,11 @@ pub record Ready (map : List ℕ) (contacts : Contacts) (keys : Keys) (handover 
 abbrev pub IsReady : Dock → List (List ℕ) → Type 0
 IsReady d scans = Ready (d .map) (d .contacts) (d .keys) (d .handover) scans
 
--- After a call moreover: where a handover is open, more than half the queue waits.
+-- After a call moreover: where a handover is open, more than half the queue waits, and a key is left that finds no room.
 pub record Settled (d : Dock) (scans : List (List ℕ)) : Type 0 where
   pub ready : IsReady d scans
   pub waits : d .handover ≡ true → 9 ≤ length (waiting (d .keys .queue))
+  pub left : d .handover ≡ true → keyLeft d ≡ true
 
 -- Other keys with the same flags will do.
 pub same-flags : (map : List ℕ) (contacts : Contacts) (k : Keys) (handover : Bool) (scans : List (List ℕ)) → Ready map contacts k handover scans
@@ -74,11 +77,12 @@ all-open contacts scans seen none position h =
 
 -- With no handover open a dock that is ready is settled.
 pub shut-settled : (d : Dock) (scans : List (List ℕ)) → d .handover ≡ false → IsReady d scans → Settled d scans
-shut-settled d scans shut r = record { ready = r; waits = λ opened. never (d .handover) opened shut }
+shut-settled d scans shut r =
+    record { ready = r; waits = λ opened. never (d .handover) opened shut; left = λ opened. never (d .handover) opened shut }
 
 -- Every accepted call ends so that the dock is settled.
 pub closing-settled : (d : Dock) (scans : List (List ℕ)) → IsReady d scans → Settled (closing d) scans
-unfolding closing
+unfolding closing keyLeft
 closing-settled d scans r =
     let h = handedOver (d .keys) (d .mode) (d .types) in
     by-cases (λ (e : Dock). Settled e scans) (d .handover) (withHanded d h) d
@@ -97,5 +101,6 @@ closing-settled d scans r =
         anew = λ unfinished. r .anew opened;
       };
       waits = handed-waits (d .mode) (d .types) lastKey 1 (d .keys);
+      left = handed-stuck (d .mode) (d .types) lastKey 1 (d .keys) (omega arith);
     })
     (λ shut. shut-settled d scans shut r)

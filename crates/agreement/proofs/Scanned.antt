@@ -24,11 +24,11 @@ use Rattle.record.specs.declared.Keys.{Keys}
 use Rattle.record.specs.declared.Dock.{Dock}
 use Rattle.record.specs.Parts.{withKeys}
 use Rattle.range.specs.Range.{inRange}
-use Rattle.runs.specs.Runs.{changesOverrun, overruns}
 use Rattle.telling.proofs.Held.{turns-agree}
 use Rattle.telling.proofs.Repeating.{turns-repeat, turns-outside, repeated-repeats, repeated-held}
 use Rattle.telling.proofs.Told.{ticked-told, turns-told, repeated-told}
 use Rattle.terminal.specs.Terminals.{Terminal}
+use Rattle.agreement.proofs.Overrunning.{changesOverrun, scanOverruns}
 use Rattle.agreement.proofs.Following.{Follows, none-wait, repeats-within, closing-follows}
 use Rattle.agreement.proofs.Ready.{Ready, IsReady, Settled, same-flags, at-once, shut-settled, closing-settled}
 
@@ -164,8 +164,8 @@ module _ (t : Terminal) where
             repeated-follows (counting still scan) (scans ++ (scan ∷ [])) (turned-ready d scans shut scan (ticked (d .keys)) ready)
             (counting-follows d scans scan (s .ready) room f)
 
-    scanned-follows : overruns d scan ≡ false → Follows (scanned d scan) t
-    unfolding scanned overruns isCounted
+    scanned-follows : scanOverruns d scan ≡ false → Follows (scanned d scan) t
+    unfolding scanned scanOverruns isCounted
     scanned-follows = go (listening d) refl
       where
         go : (hears : Bool) → listening d ≡ hears → both (both hears (not (isPhantom scan))) (changesOverrun d scan) ≡ false
@@ -174,11 +174,11 @@ module _ (t : Terminal) where
         go false e room = closing-follows d t f
 
     -- The call, refused or not.
-    pub scan-follows : inRange d ≡ true → both (eqb (length scan) 18) (overruns d scan) ≡ false → Follows (scanOf d scan .dock) t
+    pub scan-follows : inRange d ≡ true → both (eqb (length scan) 18) (scanOverruns d scan) ≡ false → Follows (scanOf d scan .dock) t
     unfolding scanOf
     scan-follows range = rw range (go (eqb (length scan) 18))
       where
-        go : (whole : Bool) → both whole (overruns d scan) ≡ false
+        go : (whole : Bool) → both whole (scanOverruns d scan) ≡ false
             → Follows ((pick whole (answered Accepted (scanned d scan)) (answered ScanLength d)) .dock) t
         go true room = scanned-follows room
         go false room = f

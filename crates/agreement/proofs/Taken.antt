@@ -1,16 +1,18 @@
 -- A read leaves a settled dock settled, and the terminal, which takes what key byte it gave, goes on following. Assumes nothing.
 use mathlib.Core.Path.{_≡_, refl}
-use mathlib.Core.Bool.{true}
+use mathlib.Core.Bool.{Bool, true, false}
 use mathlib.Core.List.{List}
 use Prim.Native.Nat.{ℕ, _≤_}
 use native.Mathlib.Omega.{arith}
 use borrow.Author.Tests.{eqb-false}
 use lib.Dec.{eqb}
+use Rattle.basics.specs.Choice.{pick, both}
 use lib.ListN.{length, take, drop, length-take, length-drop}
 use Rattle.dock.specs.declared.Taken.{Taken}
 use Rattle.dock.specs.declared.Given.the-variants.{Nothing}
 use Rattle.dock.specs.Answers.{taken}
 use Rattle.dock.specs.Closing.{closing}
+use Rattle.dock.specs.Scan.{quiet}
 use Rattle.dock.specs.Read.{oldest, withoutOldest, oldestReply, repliesBehind, remembering, replyTaken, keyByteTaken, read, readOf}
 use Rattle.queue.specs.declared.Queue.{Queue}
 use Rattle.queue.specs.Queues.{waiting}
@@ -18,6 +20,7 @@ use Rattle.queue.proofs.Meaning.{places-queueOf}
 use Rattle.record.specs.declared.Dock.{Dock}
 use Rattle.record.specs.Parts.{withKeys, withReplies, withQueue}
 use Rattle.range.specs.Range.{inRange}
+use Rattle.runs.specs.Machines.{ours, isNothing, nothingWaits}
 use Rattle.runs.specs.Worlds.{takes}
 use Rattle.basics.proofs.Cases.{by-cases, picked}
 use Rattle.telling.proofs.Told.{byte-told}
@@ -77,3 +80,14 @@ read-follows d scans t range s f =
     heard))
     (closing-follows (remembering (withReplies d (repliesBehind (d .replies))) (oldestReply (d .replies))) t
     f))
+
+-- A read gives nothing exactly where nothing waits.
+pub nothing-is-quiet : (d : Dock) → inRange d ≡ true → nothingWaits ours d ≡ quiet d
+unfolding readOf read replyTaken keyByteTaken
+nothing-is-quiet d range = rw range (go (eqb (d .replies .length) 0) (eqb (d .keys .queue .length) 0))
+  where
+    go : (silent empty : Bool)
+        → isNothing ((pick silent (pick empty (taken Nothing (closing d)) (keyByteTaken d)) (replyTaken d)) .given) ≡ both silent empty
+    go true true = refl
+    go true false = refl
+    go false empty = refl

@@ -30,15 +30,17 @@ use Rattle.dock.specs.Read.{remembering, replyTaken, keyByteTaken, read, readOf
 use Rattle.reader.specs.Reader.{heard, inSet1, inSet2, inSet3, readByte}
 use Rattle.history.specs.Rows.{threeFirst, threeInARow, saysClosed}
 use Rattle.history.specs.Scans.{shownAt}
-use Rattle.telling.specs.Overruns.{lacksRoom, overrunsAt, overrunsTo}
+use Rattle.telling.specs.Queued.{moveBytes, turnBytesAt, turnBytes}
 use Rattle.terminal.specs.Terminals.{begun, hears}
 use Rattle.runs.specs.Bytes.{givenIn}
 use Rattle.runs.specs.Calls.{clears, isClearing}
-use Rattle.runs.specs.Onlookers.{atPowerOn, isCountedBy, sawScan, isMap, sawSwap, scanningAfter, waitingAfter, sawByte}
+use Rattle.runs.specs.Onlookers.{atPowerOn, isCountedBy, sawScan, isMap, sawSwap, scanningAfter, waitingAfter, setAfter, sawByte}
+use Rattle.runs.specs.Rules.{oneOf, numbersFrom, inCommon, sharesTwo, looksPhantom, setThreeCodes, valuesFor, waitsForValue}
+use Rattle.runs.specs.Machines.{lowestFrom, findsNoRoom, keyLeft}
 use Rattle.runs.specs.Worlds.{woken, next, afterCalls}
-use Rattle.runs.specs.Runs.{mayBegin, changesOverrun, overruns, undisturbed}
+use Rattle.runs.specs.Runs.{noneHeldFrom, mayBegin, turningBytes, overruns, undisturbed}
 use Rattle.runs.specs.Stories.{Story, outcome, flagged, saidFrom, host, nothing, showing, showingToo}
-use Rattle.runs.specs.Told.{stories, limestone, heldOn, repeatEnded, shiftedCursor, shiftedCursorInSet1, shiftLetGo, twelve, twelvePressed, twelveReleased, longHandover, secondSwap, otherPanel, waitingCommand, scanningOff, phantomScans, waitingReply, thirdScan, pauseStruck, refusals}
+use Rattle.runs.specs.Told.{stories, limestone, heldOn, repeatEnded, shiftedCursor, shiftedCursorInSet1, shiftLetGo, twelve, twelvePressed, twelveReleased, longHandover, secondSwap, otherPanel, waitingCommand, scanningOff, phantomScans, waitingReply, thirdScan, typedOnAtOnce, identified, setDefault, afterReset, afterOverrun, wrongValues, pauseStruck, refusals}
 
 -- The list names every unfoldable definition that a story computes through, crate by crate. If one is missing, the two sides stand
 -- still and `refl` is refused: add it here.
@@ -62,10 +64,13 @@ unfolding
     frameOf remembering replyTaken keyByteTaken read readOf
     heard inSet1 inSet2 inSet3 readByte
     threeFirst threeInARow saysClosed shownAt
-    lacksRoom overrunsAt overrunsTo
+    moveBytes turnBytesAt turnBytes
     begun hears
-    clears isClearing atPowerOn isCountedBy sawScan isMap sawSwap scanningAfter waitingAfter sawByte woken next afterCalls mayBegin changesOverrun
+    clears isClearing atPowerOn isCountedBy sawScan isMap sawSwap scanningAfter waitingAfter setAfter sawByte
+    oneOf numbersFrom inCommon sharesTwo looksPhantom setThreeCodes valuesFor waitsForValue lowestFrom findsNoRoom keyLeft
+    woken next afterCalls noneHeldFrom mayBegin turningBytes
     overruns undisturbed outcome flagged saidFrom host nothing showing showingToo stories limestone heldOn repeatEnded
     shiftedCursor shiftedCursorInSet1 shiftLetGo twelve twelvePressed twelveReleased givenIn longHandover secondSwap
-    otherPanel waitingCommand scanningOff phantomScans waitingReply thirdScan pauseStruck refusals
+    otherPanel waitingCommand scanningOff phantomScans waitingReply thirdScan typedOnAtOnce identified setDefault afterReset
+    afterOverrun wrongValues pauseStruck refusals
 all-as-told = refl

@@ -28,7 +28,8 @@ use Rattle.record.specs.declared.Dock.{Dock}
 use Rattle.record.specs.Parts.{withKeys, withQueue}
 use Rattle.sending.specs.Sending.{sends}
 use Rattle.telling.specs.Queued.{turnBytes, handedBytes}
-use Rattle.runs.specs.Calls.{Call, Scan, Swap, Frame, Read}
+use Rattle.runs.specs.Calls.{Call, Scan, Swap, Frame, Read, asBytes}
+use Rattle.runs.specs.Machines.{ours}
 use Rattle.runs.specs.Worlds.{World, next}
 
 -- The bytes of a repeat, if one is due, the key still may repeat, and all is quiet.
@@ -75,7 +76,7 @@ readBytes Refused d = []
 
 -- What a call puts into the queue; a call that is not accepted puts nothing.
 abbrev pub queuedBy : Dock → Call → List ℕ
-queuedBy d (Scan scan) = pick (isAccepted (scanOf d scan .answer)) (scanBytes d scan) []
+queuedBy d (Scan scan) = let bytes = asBytes scan in pick (isAccepted (scanOf d bytes .answer)) (scanBytes d bytes) []
 queuedBy d (Swap map) = pick (isAccepted (swapOf d map .answer)) (closingBytes (remapped d map)) []
 queuedBy d (Frame number) = pick (isAccepted (frameOf d number .answer)) (frameBytes (unpackedOf number) d) []
 queuedBy d Read = readBytes (readOf d .given) d
@@ -97,12 +98,12 @@ givenBy d Read = keyBytesOf (readOf d .given)
 -- All that calls put into the queue, one after the other.
 unfoldable pub queuedIn : World → List Call → List ℕ
 queuedIn w [] = []
-queuedIn w (call ∷ calls) = queuedBy (w .dock) call ++ queuedIn (next w call) calls
+queuedIn w (call ∷ calls) = queuedBy (w .dock) call ++ queuedIn (next ours w call) calls
 
 -- All key bytes that they give.
 unfoldable pub givenIn : World → List Call → List ℕ
 givenIn w [] = []
-givenIn w (call ∷ calls) = givenBy (w .dock) call ++ givenIn (next w call) calls
+givenIn w (call ∷ calls) = givenBy (w .dock) call ++ givenIn (next ours w call) calls
 
 -- What a read should give where these replies and these key bytes wait: the oldest reply, else the oldest key byte, else nothing.
 abbrev pub foremost : List ℕ → List ℕ → Given

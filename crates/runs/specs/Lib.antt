@@ -1,7 +1,10 @@
 pub mod Calls
+pub mod Rules
 pub mod Onlookers
+pub mod Machines
 pub mod Worlds
 pub mod Runs
+pub mod Demand
 pub mod Bytes
 pub mod Stories
 pub mod Told

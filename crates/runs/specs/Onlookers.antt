@@ -1,4 +1,4 @@
--- What an onlooker knows who hears every call of a dock and cannot look into it (docs/RULES.md, section 13). Assumes nothing.
+-- What an onlooker knows who hears every call of a dock (docs/RULES.md, section 13). Assumes nothing.
 use Prim.Native.Nat.{ℕ}
 use mathlib.Core.Bool.{Bool, true, false, not}
 use mathlib.Core.List.{List, [], _∷_, _++_}
@@ -8,41 +8,39 @@ use Rattle.basics.specs.Choice.{pick, both}
 use Rattle.basics.specs.Lists.{allUpTo}
 use Rattle.frames.specs.declared.Unpacked.{Unpacked}
 use Rattle.frames.specs.declared.Unpacked.the-variants.{Byte, Broken, TooLarge}
-use Rattle.host.specs.Values.{rightValue}
 use Rattle.keys.specs.Keys.{lastKey}
 use Rattle.maps.specs.Maps.{hasDouble}
-use Rattle.phantom.specs.Phantom.{isPhantom}
-use Rattle.range.specs.Range.{takesValue}
 use Rattle.record.specs.Power.{plainMap}
+use Rattle.runs.specs.Rules.{oneOf, looksPhantom, valuesFor, waitsForValue}
 
--- The map of the panel that is clipped on, whether scanning is on, the command that waits for its value (0 for none), and the scans
--- counted since the last power-on, reset or swap, in the order in which they came.
+-- The map of the panel that is clipped on, whether scanning is on, the command that waits for its value (0 for none), the set that is
+-- chosen, and the scans counted since the last power-on, reset or swap, in the order in which they came.
 pub record Onlooker : Type 0 where
   pub map : List ℕ
   pub scanning : Bool
   pub waiting : ℕ
+  pub set : ℕ
   pub scans : List (List ℕ)
 
 -- An onlooker who knows this.
-abbrev pub onlooker : List ℕ → Bool → ℕ → List (List ℕ) → Onlooker
-onlooker map scanning waiting scans = record { map = map; scanning = scanning; waiting = waiting; scans = scans }
+abbrev pub onlooker : List ℕ → Bool → ℕ → ℕ → List (List ℕ) → Onlooker
+onlooker map scanning waiting set scans = record { map = map; scanning = scanning; waiting = waiting; set = set; scans = scans }
 
--- Power-on: the plain map, scanning on, no command waits, no scan was counted.
+-- Power-on: the plain map, scanning on, no command waits, set 2, no scan was counted.
 unfoldable pub atPowerOn : Onlooker
-atPowerOn = onlooker plainMap true 0 []
+atPowerOn = onlooker plainMap true 0 2 []
 
--- A scan is counted if it has 18 bytes, scanning is on, no command waits for its value, no swap is unfinished, and it is not phantom. Only
--- whether a swap is unfinished has to be asked of the dock, since that is a matter of its queue; and once a scan was counted, the dock is
--- not believed that it is.
+-- A scan is counted if it has 18 bytes, scanning is on, no command waits for its value, no swap is unfinished, and it is not phantom. A
+-- swap is unfinished as long as no scan has been counted since and a key of the panel that was taken away is left.
 unfoldable pub isCountedBy : Onlooker → Bool → List ℕ → Bool
-isCountedBy o unfinished scan =
-    let openSwap = both (eqb (length (o .scans)) 0) unfinished in
-    both (eqb (length scan) 18) (both (both (o .scanning) (both (eqb (o .waiting) 0) (not openSwap))) (not (isPhantom scan)))
+isCountedBy o left scan =
+    let unfinished = both (eqb (length (o .scans)) 0) left in
+    both (eqb (length scan) 18) (both (both (o .scanning) (both (eqb (o .waiting) 0) (not unfinished))) (not (looksPhantom scan)))
 
 -- A scan: it joins the others if it is counted.
 unfoldable pub sawScan : Bool → List ℕ → Onlooker → Onlooker
-sawScan unfinished scan o =
-    onlooker (o .map) (o .scanning) (o .waiting) (pick (isCountedBy o unfinished scan) (o .scans ++ (scan ∷ [])) (o .scans))
+sawScan left scan o =
+    onlooker (o .map) (o .scanning) (o .waiting) (o .set) (pick (isCountedBy o left scan) (o .scans ++ (scan ∷ [])) (o .scans))
 
 -- A map that a swap can bring: 144 entries, each a key or 0, and no key twice.
 unfoldable pub isMap : List ℕ → Bool
@@ -50,7 +48,7 @@ isMap map = both (eqb (length map) 144) (both (allUpTo lastKey map) (not (hasDou
 
 -- A swap: with a map it brings another panel, of which no scan was counted yet. What is no map is refused.
 unfoldable pub sawSwap : List ℕ → Onlooker → Onlooker
-sawSwap map o = pick (isMap map) (onlooker map (o .scanning) (o .waiting) []) o
+sawSwap map o = pick (isMap map) (onlooker map (o .scanning) (o .waiting) (o .set) []) o
 
 -- Whether scanning is on after a byte from the host: F4 turns it on, F5 off, and the reset on.
 unfoldable pub scanningAfter : ℕ → Bool → Bool
@@ -60,12 +58,18 @@ scanningAfter byte scanning = pick (eqb byte 0xf4) true (pick (eqb byte 0xf5) fa
 unfoldable pub waitingAfter : ℕ → ℕ → ℕ
 waitingAfter byte waiting =
     pick (eqb byte 0xfe) waiting
-    (pick (leb 0xed byte) (pick (takesValue byte) byte 0) (pick (rightValue waiting byte) 0 waiting))
+    (pick (leb 0xed byte) (pick (waitsForValue byte) byte 0) (pick (oneOf byte (valuesFor waiting)) 0 waiting))
+
+-- The set after a byte: F5, F6 and the reset choose set 2, and F0 the one that is its value.
+unfoldable pub setAfter : ℕ → ℕ → ℕ → ℕ
+setAfter byte waiting set =
+    pick (oneOf byte (0xf5 ∷ 0xf6 ∷ 0xff ∷ [])) 2 (pick (both (eqb waiting 0xf0) (oneOf byte (valuesFor 0xf0))) byte set)
 
 -- A byte from the host. After a reset no scan was counted.
 unfoldable pub sawByte : ℕ → Onlooker → Onlooker
 sawByte byte o =
-    onlooker (o .map) (scanningAfter byte (o .scanning)) (waitingAfter byte (o .waiting)) (pick (eqb byte 0xff) [] (o .scans))
+    onlooker (o .map) (scanningAfter byte (o .scanning)) (waitingAfter byte (o .waiting)) (setAfter byte (o .waiting) (o .set))
+    (pick (eqb byte 0xff) [] (o .scans))
 
 -- A frame: a broken one and one over 2047 carry no byte.
 abbrev pub sawFrame : Unpacked → Onlooker → Onlooker

@@ -5,12 +5,12 @@ use mathlib.Core.List.{List, [], _∷_}
 use lib.Dec.{eqb}
 use lib.ListN.{replicate, set}
 use Rattle.basics.specs.Choice.{pick}
-use Rattle.dock.specs.Scan.{quiet}
 use Rattle.frames.specs.Frames.{packedOf}
 use Rattle.history.specs.Rows.{saysClosed}
 use Rattle.history.specs.Scans.{shownAt}
 use Rattle.runs.specs.Bytes.{givenIn}
 use Rattle.runs.specs.Calls.{Call, Scan, Frame, Read}
+use Rattle.runs.specs.Machines.{ours, nothingWaits}
 use Rattle.runs.specs.Worlds.{woken, afterCalls}
 use Rattle.runs.specs.Runs.{mayBegin, beginning, undisturbed}
 
@@ -39,12 +39,12 @@ saidFrom position (key ∷ keys) scans =
 -- The outcome of calls after others since power-on.
 unfoldable pub outcome : List Call → List Call → Outcome
 outcome earlier calls =
-    let start = beginning (afterCalls woken earlier) in
-    let end = afterCalls start calls in
+    let start = beginning (afterCalls ours (woken ours) earlier) in
+    let end = afterCalls ours start calls in
     record {
-      begins = mayBegin (start .dock);
-      undisturbed = undisturbed start calls;
-      quiet = quiet (end .dock);
+      begins = mayBegin ours start;
+      undisturbed = undisturbed ours start calls;
+      quiet = nothingWaits ours (end .dock);
       down = flagged 0 (end .terminal .down);
       said = saidFrom 0 (end .onlooker .map) (end .onlooker .scans);
       bytes = givenIn start calls;

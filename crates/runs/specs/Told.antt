@@ -100,6 +100,44 @@ otherPanel = story (reads 1) (Swap (set (set plainMap 2 4) 3 3) ∷ scans 3 (sho
 unfoldable pub thirdScan : Story
 thirdScan = story (reads 1 ++ scans 2 (showing 0 4)) (scans 1 (showing 0 4) ++ reads 1) (agreeing (0x1e ∷ []) (3 ∷ []))
 
+-- The next panel is typed on before the old one's release is read: its scans count, since no key of the old one is left.
+unfoldable pub typedOnAtOnce : Story
+typedOnAtOnce =
+    story (reads 1)
+    (scans 3 (showing 0 4) ++ reads 1 ++ Swap plainMap ∷ scans 3 (showing 0 0x20) ++ reads 3)
+    (agreeing (0x1e ∷ 0xf0 ∷ 0x1e ∷ 0x2e ∷ []) (6 ∷ []))
+
+-- F2 waits for no value, so that scans count behind it.
+unfoldable pub identified : Story
+identified = story (reads 1) (Frame (packedOf 0xf2) ∷ reads 3 ++ scans 3 (showing 0 4) ++ reads 1) (agreeing (0x1e ∷ []) (3 ∷ []))
+
+-- After F0 01 and F6 set 2 is chosen, and the terminal reads by it,
+unfoldable pub setDefault : Story
+setDefault = story (reads 1 ++ host 0xf0 ++ host 1 ++ host 0xf6) (scans 3 (showing 0 4) ++ reads 1) (agreeing (0x1e ∷ []) (3 ∷ []))
+
+-- as it is after the reset, which forgets a key that is held.
+unfoldable pub afterReset : Story
+afterReset =
+    story (reads 1 ++ host 0xf0 ++ host 1 ++ scans 3 (showing 0 4) ++ host 0xff ++ reads 1)
+    (scans 2 (showing 0 4) ++ scans 3 (showing 0 0x20) ++ reads 1)
+    (agreeing (0x2e ∷ []) (6 ∷ []))
+
+-- The terminal may begin after an overrun, once the mark is read and no key is held.
+unfoldable pub afterOverrun : Story
+afterOverrun =
+    story (reads 1 ++ scans 3 twelve ++ scans 3 nothing ++ reads 16)
+    (scans 3 (showing 0 4) ++ reads 1)
+    (agreeing (0x1e ∷ []) (3 ∷ []))
+
+-- FE, a wrong value, a broken frame and one over 2047 change nothing of it: F3 goes on waiting for its value, and scans do not count
+-- until it has come.
+unfoldable pub wrongValues : Story
+wrongValues =
+    story (reads 1)
+    (scans 3 (showing 0 4) ++ reads 1 ++ host 0xf3 ++ host 0x80 ++ scans 3 (showing 0 0x20) ++ host 0xfe ++ Frame 0 ∷ Frame 2048 ∷ scans 3 nothing
+    ++ reads 1 ++ host 0 ++ scans 2 nothing ++ reads 1)
+    (agreeing (0x1e ∷ []) (3 ∷ []))
+
 -- PAUSE is struck, and not down.
 unfoldable pub pauseStruck : Story
 pauseStruck = story (reads 1) (scans 3 (showing 12 0x10) ++ reads 8) (pauseApart (0xe1 ∷ 0x14 ∷ 0x77 ∷ 0xe1 ∷ 0xf0 ∷ 0x14 ∷ 0xf0 ∷ 0x77 ∷ []))
@@ -115,4 +153,4 @@ refusals =
 unfoldable pub stories : List Story
 stories =
     limestone ∷ heldOn ∷ shiftLetGo ∷ shiftedCursor ∷ shiftedCursorInSet1 ∷ otherPanel ∷ waitingCommand ∷ scanningOff ∷ phantomScans
-    ∷ waitingReply ∷ thirdScan ∷ pauseStruck ∷ refusals ∷ repeatEnded ∷ longHandover ∷ secondSwap ∷ []
+    ∷ waitingReply ∷ thirdScan ∷ typedOnAtOnce ∷ identified ∷ setDefault ∷ afterReset ∷ afterOverrun ∷ wrongValues ∷ pauseStruck ∷ refusals ∷ repeatEnded ∷ longHandover ∷ secondSwap ∷ []

@@ -91,7 +91,7 @@ module _ (m : Mode) (types : List ℕ) where
   handed-outside n key k out j h = handed-down n key k j (out j h)
 
   -- A key that the handover has passed is not held.
-  passed : Keys → ℕ → Keys
+  pub passed : Keys → ℕ → Keys
   passed k key = pick (isHeld k key) (released k m (getD types key 0) key) k
 
   passed-own : (k : Keys) (key : ℕ) → getD (passed k key .held) key 0 ≡ 0
@@ -99,12 +99,12 @@ module _ (m : Mode) (types : List ℕ) where
   passed-own k key =
       by-cases (λ (r : Keys). getD (r .held) key 0 ≡ 0) (isHeld k key) _ _ (λ h. down-own (k .held) key) (not-held-down k key)
 
-  passed-gone : (n key : ℕ) (k : Keys) (j : ℕ) → j ≡ key → getD (handedFrom n (suc key) (passed k key) m types .keys .held) j 0 ≡ 0
+  pub passed-gone : (n key : ℕ) (k : Keys) (j : ℕ) → j ≡ key → getD (handedFrom n (suc key) (passed k key) m types .keys .held) j 0 ≡ 0
   passed-gone n key k j e = rw e (handed-down n (suc key) (passed k key) key (passed-own k key))
 
   -- What holds of a handover holds if it holds where it goes on and where it stops.
   module _ (P : Handed → Type 0) (n key : ℕ) (k : Keys) where
-    step : (either (not (isHeld k key)) (canLeave k m types key) ≡ true → P (handedFrom n (suc key) (passed k key) m types))
+    pub step : (either (not (isHeld k key)) (canLeave k m types key) ≡ true → P (handedFrom n (suc key) (passed k key) m types))
         → (isHeld k key ≡ true → canLeave k m types key ≡ false → P (record { keys = k; unfinished = true }))
         → P (handedFrom (suc n) key k m types)
     unfolding passed handedFrom

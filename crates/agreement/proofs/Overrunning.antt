@@ -1,0 +1,64 @@
+-- A scan overruns the queue exactly if what waits and what its events send are more than 16 bytes together. Assumes nothing.
+use mathlib.Core.Path.{_≡_, refl, sym, ap, _∙_}
+use mathlib.Core.Bool.{Bool, true, false, not}
+use mathlib.Core.List.{List, [], _++_}
+use Prim.Native.Nat.{ℕ, zero, suc, _+_, _≤_}
+use native.Mathlib.Omega.{arith}
+use borrow.Author.Tests.{eqb-true, le-leb}
+use lib.Dec.{eqb}
+use lib.ListN.{length, getD, length-append}
+use Rattle.basics.specs.Choice.{pick, both, either}
+use Rattle.basics.proofs.Cases.{neither, two-by-cases}
+use Rattle.contacts.specs.Counts.{countedOf}
+use Rattle.contacts.specs.Scans.{contact}
+use Rattle.dock.specs.Scan.{isCounted}
+use Rattle.keying.specs.Moves.{turnsTo}
+use Rattle.keying.specs.Repeat.{ticked}
+use Rattle.queue.specs.Queues.{waiting, hasRoom}
+use Rattle.record.specs.declared.Mode.{Mode}
+use Rattle.record.specs.declared.Keys.{Keys}
+use Rattle.record.specs.declared.Dock.{Dock}
+use Rattle.sending.specs.Sending.{sends}
+use Rattle.telling.specs.Overruns.{actionTo, lacksRoom, overrunsAt, overrunsTo}
+use Rattle.telling.specs.Queued.{moveBytes, turnBytesAt, turnBytes}
+use Rattle.telling.proofs.Whole.{turns-whole}
+
+-- The changes of a scan overrun the queue as it goes: one of them does not fit.
+unfoldable pub changesOverrun : Dock → List ℕ → Bool
+changesOverrun d scan =
+    overrunsTo 144 (d .mode) (d .types) (d .map) (d .contacts .closed) (countedOf (d .contacts) scan .closed) (ticked (d .keys))
+
+-- A scan does: it is counted, and its changes do.
+unfoldable pub scanOverruns : Dock → List ℕ → Bool
+scanOverruns d scan = both (isCounted d scan) (changesOverrun d scan)
+
+module _ (m : Mode) (types map was is : List ℕ) where
+  -- What the key at a position sends fits, or nothing turned there.
+  turn-fits : (position : ℕ) (k : Keys) → length (waiting (k .queue)) + length (turnBytesAt m types map was is position k) ≤ 16
+      → overrunsAt m types map was is position k ≡ false
+  unfolding turnBytesAt moveBytes overrunsAt lacksRoom
+  turn-fits position k = go (eqb (contact was position) (contact is position)) (eqb (getD map position 0) 0)
+    where
+      bytes : List ℕ
+      bytes = sends k m (getD types (getD map position 0) 0) (getD map position 0) (actionTo (contact is position))
+
+      go : (still none : Bool) → length (waiting (k .queue)) + length (pick still [] (pick none [] bytes)) ≤ 16
+          → both (not still) (both (not none) (not (hasRoom (waiting (k .queue)) (length bytes)))) ≡ false
+      go true none room = refl
+      go false true room = refl
+      go false false room = rw (le-leb (length (waiting (k .queue)) + length bytes) 16 room)
+
+  -- So do all of them, if they do together.
+  pub turns-fit : (n : ℕ) (k : Keys) → length (waiting (k .queue)) + length (turnBytes n m types map was is k) ≤ 16
+      → overrunsTo n m types map was is k ≡ false
+  unfolding turnBytes overrunsTo
+  turns-fit zero k room = refl
+  turns-fit (suc n) k room =
+      let so-far = turnsTo n m types map was is k in
+      let before = turnBytes n m types map was is k in
+      let now = turnBytesAt m types map was is n so-far in
+      let both-lengths = length-append before now in
+      let calm = turns-fit n k (omega arith) in
+      let waits = ap length (turns-whole m types map n was is k calm) ∙ length-append (waiting (k .queue)) before in
+      neither (overrunsTo n m types map was is k) (overrunsAt m types map was is n so-far) calm
+      (turn-fits n so-far (omega arith))

@@ -1,0 +1,139 @@
+-- The dock goes by the rules as the onlooker knows them: its phantom test, the commands that wait for a value, the values that are right,
+-- and the set are his. Assumes nothing.
+use mathlib.Core.Path.{_≡_, refl, sym, ap, ap₂, _∙_}
+use mathlib.Core.Bool.{Bool, true, false, not}
+use mathlib.Core.List.{List, [], _∷_, map}
+use Prim.Native.Nat.{ℕ, zero, suc, _+_, _*_, _/_, _%_, _^_, _≤_, _<_}
+use native.Mathlib.Decide.{ℕ-discrete}
+use native.Mathlib.Nat.{zero-add}
+use native.Mathlib.Omega.{arith}
+use borrow.Author.Tests.{eqb-true, eq-eqb, ne-eqb, leb-true, leb-false, le-leb}
+use lib.Bits.{bitAnd, and-shr, and-mod, and-lt}
+use lib.Count.{ones, onesIn}
+use lib.Dec.{T, eqb, leb}
+use Rattle.basics.specs.Choice.{pick, both, either, between}
+use Rattle.basics.proofs.Cases.{two-by-cases}
+use Rattle.basics.proofs.Tables.{allBelow, passed, below}
+use Rattle.host.specs.Values.{rightValue}
+use Rattle.keys.specs.declared.Row.{Row}
+use Rattle.keys.specs.Keys.{rows}
+use Rattle.lookup.specs.Lookup.{firstWith, keyWith}
+use Rattle.phantom.specs.Phantom.{sharesAny, isPhantom}
+use Rattle.range.specs.Range.{takesValue}
+use Rattle.runs.specs.Calls.{asBytes}
+use Rattle.runs.specs.Rules.{oneOf, numbersFrom, closedIn, inCommon, sharesTwo, looksPhantom, setThreeCodes, valuesFor, waitsForValue}
+
+-- A row that is closed in both of two columns is closed in what they have in common.
+row-and : (x y row : ℕ) → closedIn (bitAnd x y) row ≡ closedIn x row * closedIn y row
+row-and x y row =
+    ap (λ (n : ℕ). n % 2) (and-shr x y row) ∙ and-mod (x / 2 ^ row) (y / 2 ^ row) 1 ∙ bits (closedIn x row) (closedIn y row) (omega arith) (omega arith)
+  where
+    bits : (a b : ℕ) → a < 2 → b < 2 → bitAnd a b ≡ a * b
+    bits zero zero h l = refl
+    bits zero (suc zero) h l = refl
+    bits (suc zero) zero h l = refl
+    bits (suc zero) (suc zero) h l = refl
+    bits zero (suc (suc b)) h l = absurd (omega arith)
+    bits (suc zero) (suc (suc b)) h l = absurd (omega arith)
+    bits (suc (suc a)) b h l = absurd (omega arith)
+
+-- The closed ones of the first n rows.
+unfoldable closedRows : ℕ → ℕ → ℕ
+closedRows zero column = 0
+closedRows (suc row) column = closedRows row column + closedIn column row
+
+common-rows : (n x y : ℕ) → inCommon n x y ≡ closedRows n (bitAnd x y)
+unfolding inCommon closedRows
+common-rows zero x y = refl
+common-rows (suc row) x y = ap₂ (λ (a b : ℕ). a + b) (common-rows row x y) (sym (row-and x y row))
+
+-- Eight rows are all that a byte has: computed over the 256 of them.
+all-rows : T (allBelow (λ (n : ℕ). eqb (closedRows 8 n) (ones n)) 256)
+unfolding closedRows ones onesIn
+all-rows = tt
+
+common-ones : (x y : ℕ) → x < 256 → y < 256 → inCommon 8 x y ≡ ones (bitAnd x y)
+common-ones x y h l =
+    common-rows 8 x y
+    ∙ eqb-true (closedRows 8 (bitAnd x y)) (ones (bitAnd x y))
+    (passed (eqb (closedRows 8 (bitAnd x y)) (ones (bitAnd x y)))
+    (below (λ (n : ℕ). eqb (closedRows 8 n) (ones n)) 256 all-rows (bitAnd x y) (and-lt 8 x y h l)))
+
+shares-same : (x : ℕ) (scan : List ℕ) → x < 256 → sharesTwo x (asBytes scan) ≡ sharesAny x (asBytes scan)
+unfolding sharesTwo sharesAny
+shares-same x [] h = refl
+shares-same x (y ∷ ys) h =
+    ap₂ (λ (a b : Bool). either a b) (ap (λ (n : ℕ). leb 2 n) (common-ones x (y % 256) h (omega arith))) (shares-same x ys h)
+
+pub phantom-same : (scan : List ℕ) → looksPhantom (asBytes scan) ≡ isPhantom (asBytes scan)
+unfolding looksPhantom isPhantom
+phantom-same [] = refl
+phantom-same (x ∷ xs) = ap₂ (λ (a b : Bool). either a b) (shares-same (x % 256) xs (omega arith)) (phantom-same xs)
+
+-- A number is one of n from a first one on if it is in their range, and else it is none.
+in-numbers : (x n first : ℕ) → first ≤ x → x < first + n → oneOf x (numbersFrom first n) ≡ true
+unfolding oneOf numbersFrom
+in-numbers x zero first low high = absurd (omega arith)
+in-numbers x (suc n) first low high = go (ℕ-discrete x first) (λ h. in-numbers x n (suc first) h (omega arith))
+  where
+    go : Dec (x ≡ first) → (suc first ≤ x → oneOf x (numbersFrom (suc first) n) ≡ true)
+        → either (eqb x first) (oneOf x (numbersFrom (suc first) n)) ≡ true
+    go (yes e) later = rw (eq-eqb x first e)
+    go (no e) later = rw (ne-eqb x first e) (later (omega arith))
+
+not-below : (x n first : ℕ) → x < first → oneOf x (numbersFrom first n) ≡ false
+unfolding oneOf numbersFrom
+not-below x zero first low = refl
+not-below x (suc n) first low = rw (ne-eqb x first (λ e. omega arith)) (not-below x n (suc first) (omega arith))
+
+not-above : (x n first : ℕ) → first + n ≤ x → oneOf x (numbersFrom first n) ≡ false
+unfolding oneOf numbersFrom
+not-above x zero first high = refl
+not-above x (suc n) first high = rw (ne-eqb x first (λ e. omega arith)) (not-above x n (suc first) (omega arith))
+
+among-numbers : (x n first : ℕ) → oneOf x (numbersFrom first (suc n)) ≡ between first (first + n) x
+among-numbers x n first = go (leb first x) refl (leb x (first + n)) refl
+  where
+    go : (low : Bool) → leb first x ≡ low → (high : Bool) → leb x (first + n) ≡ high → oneOf x (numbersFrom first (suc n)) ≡ both low high
+    go true l true h = in-numbers x (suc n) first (leb-true first x l) (omega (arith, leb-true x (first + n) h))
+    go true l false h = not-above x (suc n) first (omega (arith, leb-false x (first + n) h))
+    go false l high h = not-below x (suc n) first (leb-false first x l)
+
+-- The commands that wait for a value.
+pub waits-same : (byte : ℕ) → waitsForValue byte ≡ takesValue byte
+unfolding waitsForValue oneOf
+waits-same byte =
+    ap (λ (b : Bool). either (eqb byte 0xed) (either (eqb byte 0xf0) (either (eqb byte 0xf3) b))) (among-numbers byte 2 0xfb)
+
+-- The codes of set 3 are those that some key has.
+codes-same : (value : ℕ) (rs : List Row) (key : ℕ) → oneOf value (map (λ (r : Row). r .2) rs) ≡ not (eqb (firstWith 3 value (suc key) rs) 0)
+unfolding oneOf firstWith
+codes-same value [] key = refl
+codes-same value (r ∷ rs) key = go (ℕ-discrete value (r .2)) (codes-same value rs (suc key))
+  where
+    go : Dec (value ≡ r .2) → oneOf value (map (λ (r : Row). r .2) rs) ≡ not (eqb (firstWith 3 value (suc (suc key)) rs) 0)
+        → either (eqb value (r .2)) (oneOf value (map (λ (r : Row). r .2) rs))
+        ≡ not (eqb (elim (eqb (r .2) value) [ true ↦ suc key | false ↦ firstWith 3 value (suc (suc key)) rs ]) 0)
+    go (yes e) later = rw (eq-eqb value (r .2) e, eq-eqb (r .2) value (sym e), ne-eqb (suc key) 0 (λ z. omega arith))
+    go (no e) later = rw (ne-eqb value (r .2) e, ne-eqb (r .2) value (λ f. e (sym f))) later
+
+among-none : (value : ℕ) → oneOf value [] ≡ false
+unfolding oneOf
+among-none value = refl
+
+-- The values that are right.
+pub right-same : (command value : ℕ) → oneOf value (valuesFor command) ≡ rightValue command value
+unfolding valuesFor rightValue setThreeCodes keyWith
+right-same command value =
+    let Right : List ℕ → Bool → Type 0 = λ (l : List ℕ) (b : Bool). oneOf value l ≡ b in
+    two-by-cases Right (eqb command 0xed) _ _ _ _ (λ h. up-to 7)
+    (λ h. two-by-cases Right (eqb command 0xf0) _ _ _ _ (λ h. among-numbers value 2 1)
+    (λ h. two-by-cases Right (eqb command 0xf3) _ _ _ _ (λ h. up-to 127)
+    (λ h. rw (among-numbers command 2 0xfb) (go (between 0xfb 0xfd command)))))
+  where
+    up-to : (n : ℕ) → oneOf value (numbersFrom 0 (suc n)) ≡ leb value n
+    up-to n = among-numbers value n 0 ∙ rw (le-leb 0 value (omega arith), zero-add n)
+
+    go : (b : Bool) → oneOf value (pick b setThreeCodes []) ≡ both b (not (eqb (keyWith 3 value) 0))
+    go true = codes-same value rows 0
+    go false = among-none value

@@ -1,0 +1,3 @@
+pub mod Breaking
+pub mod Docks
+pub mod Listed
