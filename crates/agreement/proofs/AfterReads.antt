@@ -21,7 +21,7 @@ use Rattle.agreement.proofs.Ending.{enough-reads}
 use Rattle.agreement.proofs.ThirdDemand.{third-demand}
 
 -- Calls and then more calls.
-after-both : (calls more : List Call) (w : World) → afterCalls ours w (calls ++ more) ≡ afterCalls ours (afterCalls ours w calls) more
+pub after-both : (calls more : List Call) (w : World) → afterCalls ours w (calls ++ more) ≡ afterCalls ours (afterCalls ours w calls) more
 unfolding afterCalls
 after-both [] more w = refl
 after-both (call ∷ calls) more w = after-both calls more (next ours w call)

@@ -1,4 +1,5 @@
--- Any dock, as its calls: of these demand 3 can be said, of ours and of wrong ones (docs/RULES.md, section 13). Assumes nothing.
+-- Any dock, as its calls: of these demand 3 can be said, of ours and of wrong ones (docs/RULES.md, section 13).
+-- Assumes nothing. An edit of must-fail/ puts what it imports in the place of these two lines.
 use Prim.Native.Nat.{ℕ, zero, suc, _+_}
 use mathlib.Core.Bool.{Bool, true, false, not}
 use mathlib.Core.List.{List}
