@@ -5,9 +5,9 @@ use mathlib.Core.Logic.{inl}
 use mathlib.Core.Bool.{Bool, true, false, not}
 use mathlib.Core.List.{List, [], _∷_}
 use native.Mathlib.Omega.{arith}
-use borrow.Author.Tests.{not-true, ltb-false, ne-eqb}
-use Prim.Native.Nat.{ℕ, _+_}
-use lib.Dec.{eqb, ltb}
+use borrow.Author.Tests.{not-true, ne-eqb}
+use Prim.Native.Nat.{ℕ}
+use lib.Dec.{eqb}
 use lib.ListN.{length}
 use Rattle.basics.specs.Choice.{pick, both, either}
 use Rattle.basics.specs.Lists.{allUpTo}
@@ -20,12 +20,14 @@ use Rattle.history.specs.Scans.{countedAll}
 use Rattle.keying.specs.Repeat.{ticked}
 use Rattle.keys.specs.Keys.{lastKey}
 use Rattle.maps.specs.Maps.{isIn, hasDouble}
-use Rattle.queue.specs.Queues.{waiting, queueOf}
+use Rattle.queue.specs.Queues.{queueOf}
 use Rattle.record.specs.declared.Dock.{Dock}
 use Rattle.record.specs.declared.Mode.{Mode}
 use Rattle.record.specs.Power.{countUp, plainMap, freshWith, powerOn}
 use Rattle.range.specs.Range.{inRange}
 use Rattle.range.proofs.PowerOn.{power-on-in-range}
+use Rattle.range.proofs.Ranges.{in-range-keys, in-range-mode}
+use Rattle.keying.proofs.Good.{ticked-good}
 use Rattle.runs.specs.Calls.{Call, Scan, Swap, Frame, Read, asBytes, isClearingCall}
 use Rattle.runs.specs.Onlookers.{Onlooker, onlooker, atPowerOn, isCountedBy, sawScan, isMap, sawSwap}
 use Rattle.runs.specs.Machines.{ours, findsNoRoom, keyLeft}
@@ -36,7 +38,7 @@ use Rattle.telling.proofs.Held.{none-agree, contact-open}
 use Rattle.basics.proofs.Zeros.{zeros-at}
 use Rattle.agreement.proofs.Rules.{phantom-same}
 use Rattle.agreement.proofs.Left.{none-lowest}
-use Rattle.agreement.proofs.Overrunning.{changesOverrun, scanOverruns, turns-fit}
+use Rattle.agreement.proofs.Overrunning.{changesOverrun, scanOverruns, turns-exactly}
 use Rattle.agreement.proofs.Ready.{IsReady, Settled, shut-settled}
 use Rattle.agreement.proofs.SaidHeld.{none-held, no-scan-says}
 use Rattle.agreement.proofs.Following.{Follows}
@@ -106,26 +108,23 @@ same-count w s scan =
         ≡ both whole (both (both on (both (eqb command 0) (not unfinished))) (not looks))
     alike whole e f g h = rw (e, f, g, h)
 
--- A scan that by its bytes does not overrun the queue does not as the dock goes on.
-pub calm-scan : (w : World) → Sound w → (scan : List ℕ) → overruns w (asBytes scan) ≡ false
-    → both (eqb (length (asBytes scan)) 18) (scanOverruns (w .dock) (asBytes scan)) ≡ false
+-- A scan overruns the queue, by its bytes, exactly if one of its sequences does not fit as the dock goes on.
+pub same-overrun : (w : World) → Sound w → (scan : List ℕ)
+    → overruns w (asBytes scan) ≡ both (eqb (length (asBytes scan)) 18) (scanOverruns (w .dock) (asBytes scan))
 unfolding overruns scanOverruns changesOverrun turningBytes
-calm-scan w s scan calm = go (eqb (length bytes) 18) (isCounted d bytes) (rw (← same-count w s scan) at calm)
+same-overrun w s scan =
+    let d = w .dock in
+    let r = s .settled .ready in
+    let keys = in-range-keys d (s .range) in
+    let bytes = asBytes scan in
+    alike (eqb (length bytes) 18) (isCounted d bytes) (same-count w s scan)
+    (turns-exactly (d .mode) (d .types) (d .map) (d .contacts .closed) (countedOf (d .contacts) bytes .closed)
+    (in-range-mode d (s .range)) (r .entries) 144 (ticked (d .keys)) (ticked-good (d .keys) keys) (r .places .bytes))
   where
-    d : Dock
-    d = w .dock
-
-    bytes : List ℕ
-    bytes = asBytes scan
-
-    sent : ℕ
-    sent = length (waiting (d .keys .queue)) + length (turningBytes d bytes)
-
-    go : (whole counted : Bool) → both (both whole counted) (ltb 16 sent) ≡ false → both whole (both counted (changesOverrun d bytes)) ≡ false
-    go true true room =
-        turns-fit (d .mode) (d .types) (d .map) (d .contacts .closed) (countedOf (d .contacts) bytes .closed) 144 (ticked (d .keys)) (ltb-false 16 sent room)
-    go true false room = refl
-    go false counted room = refl
+    alike : (whole counted : Bool) {by-him sent over : Bool} → both whole counted ≡ by-him → sent ≡ over
+        → both by-him sent ≡ both whole (both counted over)
+    alike true counted e f = rw (← e, f)
+    alike false counted e f = rw (← e)
 
 -- One call.
 next-sound : (w : World) (call : Call) → Sound w → Sound (next ours w call)
@@ -170,7 +169,7 @@ next-in-step : (w : World) (call : Call) → Sound w → either (isClearingCall 
 unfolding next
 next-in-step w (Scan scan) s calm f =
     record {
-      follows = scan-follows (w .terminal) (w .dock) (w .onlooker .scans) (asBytes scan) (s .settled) (f .follows) (s .range) (calm-scan w s scan calm);
+      follows = scan-follows (w .terminal) (w .dock) (w .onlooker .scans) (asBytes scan) (s .settled) (f .follows) (s .range) (sym (same-overrun w s scan) ∙ calm);
       same = ap (λ (m : Mode). m .set) (scan-stays (w .dock) (asBytes scan) .3) ∙ f .same;
     }
 next-in-step w (Swap map) s calm f =

@@ -1,20 +1,28 @@
 -- A scan overruns the queue exactly if what waits and what its events send are more than 16 bytes together. Assumes nothing.
-use mathlib.Core.Path.{_≡_, refl, sym, ap, _∙_}
+use mathlib.Core.Path.{_≡_, refl, ap, _∙_}
 use mathlib.Core.Bool.{Bool, true, false, not}
 use mathlib.Core.List.{List, [], _++_}
 use Prim.Native.Nat.{ℕ, zero, suc, _+_, _≤_}
 use native.Mathlib.Omega.{arith}
-use borrow.Author.Tests.{eqb-true, le-leb}
-use lib.Dec.{eqb}
+use borrow.Author.Tests.{le-leb, le-ltb, ltb-false}
+use lib.Dec.{eqb, ltb}
 use lib.ListN.{length, getD, length-append}
-use Rattle.basics.specs.Choice.{pick, both, either}
-use Rattle.basics.proofs.Cases.{neither, two-by-cases}
+use Rattle.basics.specs.Choice.{pick, both}
+use Rattle.basics.specs.Lists.{allUpTo}
+use Rattle.basics.proofs.Cases.{neither, never}
 use Rattle.contacts.specs.Counts.{countedOf}
 use Rattle.contacts.specs.Scans.{contact}
 use Rattle.dock.specs.Scan.{isCounted}
 use Rattle.keying.specs.Moves.{turnsTo}
 use Rattle.keying.specs.Repeat.{ticked}
+use Rattle.keying.proofs.Good.{turns-good}
+use Rattle.keying.proofs.Places.{turns-bytes}
+use Rattle.keys.specs.Keys.{lastKey}
+use Rattle.queue.specs.declared.Queue.{Queue}
 use Rattle.queue.specs.Queues.{waiting, hasRoom}
+use Rattle.queue.proofs.Meaning.{tidy-short, length-waiting}
+use Rattle.range.specs.Range.{goodMode, goodKeys}
+use Rattle.range.proofs.Ranges.{good-keys-queue}
 use Rattle.record.specs.declared.Mode.{Mode}
 use Rattle.record.specs.declared.Keys.{Keys}
 use Rattle.record.specs.declared.Dock.{Dock}
@@ -62,3 +70,26 @@ module _ (m : Mode) (types map was is : List ℕ) where
       let waits = ap length (turns-whole m types map n was is k calm) ∙ length-append (waiting (k .queue)) before in
       neither (overrunsTo n m types map was is k) (overrunsAt m types map was is n so-far) calm
       (turn-fits n so-far (omega arith))
+
+  -- And if they do not together, one of them does not: in a queue in its range no more than 16 bytes wait.
+  pub turns-exactly : goodMode m ≡ true → allUpTo lastKey map ≡ true → (n : ℕ) (k : Keys) → goodKeys k ≡ true → length (k .queue .bytes) ≡ 16
+      → ltb 16 (length (waiting (k .queue)) + length (turnBytes n m types map was is k)) ≡ overrunsTo n m types map was is k
+  turns-exactly mode entries n k good places = go (overrunsTo n m types map was is k) refl
+    where
+      sent : ℕ
+      sent = length (waiting (k .queue)) + length (turnBytes n m types map was is k)
+
+      after : Queue
+      after = turnsTo n m types map was is k .queue
+
+      go : (b : Bool) → overrunsTo n m types map was is k ≡ b → ltb 16 sent ≡ b
+      go true e = over (ltb 16 sent) refl
+        where
+          over : (b : Bool) → ltb 16 sent ≡ b → ltb 16 sent ≡ true
+          over true f = f
+          over false f = never (overrunsTo n m types map was is k) e (turns-fit n k (ltb-false 16 sent f))
+      go false e =
+          let tidied = good-keys-queue (turnsTo n m types map was is k) (turns-good m mode types map entries n was is k good) in
+          let count = length-waiting after tidied (turns-bytes m types map entries n was is k places) in
+          let waits = ap length (turns-whole m types map n was is k e) ∙ length-append (waiting (k .queue)) (turnBytes n m types map was is k) in
+          le-ltb 16 sent (omega (arith, tidy-short after tidied))

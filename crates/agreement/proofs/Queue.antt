@@ -42,7 +42,7 @@ use Rattle.runs.specs.Bytes.{closingBytes, frameBytes, readBytes, queuedBy, key
 use Rattle.basics.proofs.Cases.{by-cases, picked, neither-first}
 use Rattle.agreement.proofs.Framed.{mild, obeyed-mild}
 use Rattle.agreement.proofs.Taken.{some-wait}
-use Rattle.agreement.proofs.AnyCalls.{Sound, calm-scan, woken-sound, any-sound}
+use Rattle.agreement.proofs.AnyCalls.{Sound, same-overrun, woken-sound, any-sound}
 use Rattle.agreement.proofs.Queuing.{bytesOf, closing-bytes, scan-bytes}
 
 module _ (d : Dock) where
@@ -123,7 +123,7 @@ read-bytes w s =
 pub call-keeps-bytes : (w : World) (call : Call) → Sound w → either (isClearingCall call) (overrunsIn w call) ≡ false
     → waiting (w .dock .keys .queue) ++ queuedBy (w .dock) call ≡ givenBy (w .dock) call ++ waiting (next ours w call .dock .keys .queue)
 unfolding next
-call-keeps-bytes w (Scan scan) s calm = sym (scan-bytes (w .dock) (asBytes scan) (s .range) (calm-scan w s scan calm))
+call-keeps-bytes w (Scan scan) s calm = sym (scan-bytes (w .dock) (asBytes scan) (s .range) (sym (same-overrun w s scan) ∙ calm))
 call-keeps-bytes w (Swap map) s calm = sym (swap-bytes (w .dock) map (s .range))
 call-keeps-bytes w (Frame number) s calm =
     sym (frame-bytes (w .dock) number (s .range) (neither-first (isClearingCall (Frame number)) false calm))
