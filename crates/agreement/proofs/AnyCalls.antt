@@ -11,7 +11,7 @@ use lib.Dec.{eqb}
 use lib.ListN.{length}
 use Rattle.basics.specs.Choice.{pick, both, either}
 use Rattle.basics.specs.Lists.{allUpTo}
-use Rattle.basics.proofs.Flags.{left-of-both, right-of-both, both-false}
+use Rattle.basics.proofs.Flags.{left-of-both, right-of-both}
 use Rattle.dock.proofs.InRange.{scan-in-range, read-in-range, swap-in-range, frame-in-range}
 use Rattle.contacts.specs.Counts.{countedOf}
 use Rattle.dock.specs.Scan.{listening, isCounted}
@@ -29,7 +29,7 @@ use Rattle.range.proofs.PowerOn.{power-on-in-range}
 use Rattle.range.proofs.Ranges.{in-range-keys, in-range-mode}
 use Rattle.keying.proofs.Good.{ticked-good}
 use Rattle.runs.specs.Calls.{Call, Scan, Swap, Frame, Read, asBytes, isClearingCall}
-use Rattle.runs.specs.Onlookers.{Onlooker, onlooker, atPowerOn, isCountedBy, sawScan, isMap, sawSwap}
+use Rattle.runs.specs.Onlookers.{onlooker, atPowerOn, isCountedBy, sawScan, isMap, sawSwap}
 use Rattle.runs.specs.Machines.{ours, findsNoRoom, keyLeft}
 use Rattle.runs.specs.Worlds.{World, woken, next, afterCalls}
 use Rattle.runs.specs.Runs.{beginning, turningBytes, overruns, overrunsIn, undisturbed}

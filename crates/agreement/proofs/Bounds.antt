@@ -4,7 +4,7 @@ use mathlib.Core.Path.{_≡_, refl, _∙_}
 use mathlib.Core.List.{List, [], _∷_}
 use Prim.Native.Nat.{ℕ, _≤_}
 use native.Mathlib.Omega.{arith}
-use lib.Dec.{eqb, leb}
+use lib.Dec.{eqb}
 use lib.ListN.{length, take, drop, length-take, length-drop}
 use Rattle.basics.specs.Lists.{allUpTo}
 use Rattle.basics.proofs.Cases.{picked}
@@ -21,7 +21,8 @@ use Rattle.frames.specs.declared.Unpacked.{Unpacked}
 use Rattle.frames.specs.declared.Unpacked.the-variants.{Byte, Broken, TooLarge}
 use Rattle.frames.specs.Frames.{unpackedOf}
 use Rattle.commands.specs.Commands.{replyTo, commanded}
-use Rattle.host.specs.Values.{rightValue, tookValue, tookByte}
+use Rattle.host.specs.Values.{tookByte}
+use Rattle.host.proofs.Ladder.{by-byte}
 use Rattle.commands.proofs.InRange.{reply-short}
 use Rattle.maps.specs.Maps.{hasDouble}
 use Rattle.replies.specs.declared.Replies.{Replies}
@@ -75,13 +76,11 @@ swap-replies d map =
 
 -- A host byte is answered with three bytes at most.
 took-roomy : (byte : ℕ) (d : Dock) → Roomy (tookByte byte d)
-unfolding tookByte commanded tookValue
+unfolding commanded
 took-roomy byte d =
     let one : (answer : ℕ) → length (repliesOf (answer ∷ []) .bytes) ≡ 3 = λ answer. places-repliesOf (answer ∷ []) (omega arith) in
-    picked Roomy (eqb byte 0xfe) _ _ (one (d .given))
-    (picked Roomy (leb 0xed byte) (commanded byte d) (tookValue byte d)
-    (places-repliesOf (replyTo byte) (reply-short byte))
-    (picked Roomy (rightValue (d .waiting) byte) _ _ (one 0xfa) (one 0xfe)))
+    by-byte Roomy byte d (λ fe. one (d .given)) (λ other high. places-repliesOf (replyTo byte) (reply-short byte)) (λ low right. one 0xfa)
+    (λ low wrong. one 0xfe)
 
 frame-roomy : (d : Dock) (number : ℕ) → Roomy d → Roomy (frameOf d number .dock)
 unfolding frameOf tookFrame

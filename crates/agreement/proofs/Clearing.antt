@@ -1,20 +1,21 @@
 -- A frame whose byte clears the queue: of the key bytes that waited none is left, and what waits then is what the end of the call put in.
 -- Assumes nothing.
 use mathlib.Core.Path.{_≡_, refl, ap, _∙_}
+use mathlib.Core.Logic.{inl, ⊎-elim}
 use mathlib.Core.Bool.{Bool, true, false}
 use mathlib.Core.List.{List, [], _++_}
-use Prim.Native.Nat.{ℕ, _≤_, _<_}
+use Prim.Native.Nat.{ℕ}
 use native.Mathlib.Omega.{arith}
-use borrow.Author.Tests.{eqb-true, eqb-false, ne-eqb, leb-true, leb-false, le-leb}
+use borrow.Author.Tests.{eqb-true, ne-eqb, leb-true, leb-false}
 use lib.Dec.{eqb, leb}
-use Rattle.basics.specs.Choice.{pick, either, between}
-use Rattle.basics.proofs.Flags.{left-of-both, right-of-both}
+use Rattle.basics.specs.Choice.{pick, both, either}
 use Rattle.dock.specs.Answers.{isAccepted}
 use Rattle.dock.specs.Frame.{tookFrame, frameOf}
 use Rattle.frames.specs.declared.Unpacked.{Unpacked}
 use Rattle.frames.specs.declared.Unpacked.the-variants.{Byte, Broken, TooLarge}
 use Rattle.frames.specs.Frames.{unpackedOf}
 use Rattle.commands.specs.Commands.{obeyed, commanded}
+use Rattle.commands.proofs.Ladder.{Mild, by-command}
 use Rattle.host.specs.Values.{tookByte}
 use Rattle.queue.specs.Queues.{waiting}
 use Rattle.queue.proofs.Meaning.{waiting-queueOf}
@@ -23,33 +24,32 @@ use Rattle.record.specs.Power.{freshWith}
 use Rattle.range.specs.Range.{inRange}
 use Rattle.runs.specs.Calls.{Frame, clears, carries, isClearing}
 use Rattle.runs.specs.Bytes.{closingBytes, frameBytes, queuedBy}
-use Rattle.basics.proofs.Cases.{by-cases, never}
+use Rattle.basics.proofs.Cases.{never}
 use Rattle.agreement.proofs.Queuing.{bytesOf, closing-bytes}
 
--- A number from the low end of a range on that is not in it is past it.
-past : (low high byte : ℕ) → low ≤ byte → between low high byte ≡ false → high < byte
-past low high byte from none = go (leb byte high) refl
+-- A mild byte does not clear.
+mild-keeps : (byte : ℕ) → Mild byte → clears byte ≡ false
+unfolding clears
+mild-keeps byte m = rw (ne-eqb byte 0xf0 (m .not-f0), ne-eqb byte 0xff (m .not-ff)) (outside (leb 0xf4 byte) refl (leb byte 0xfd) refl)
   where
-    go : (b : Bool) → leb byte high ≡ b → high < byte
-    go true e = never (between low high byte) (rw (le-leb low byte from) e) none
-    go false e = leb-false byte high e
-
-middle : (first second third : Bool) → first ≡ false → third ≡ false → either first (either second third) ≡ true → second ≡ true
-middle first true third f t e = refl
-middle first false third f t e = rw (f, t) at e
+    outside : (low : Bool) → leb 0xf4 byte ≡ low → (high : Bool) → leb byte 0xfd ≡ high → either (both low high) false ≡ false
+    outside false l high h = refl
+    outside true l false h = refl
+    outside true l true h =
+        let from = leb-true 0xf4 byte l in
+        let to = leb-true byte 0xfd h in
+        absurd (⊎-elim (λ before. omega arith) (λ past. omega arith) (m .apart))
 
 -- A byte that clears is a command, so ED or more, and it is not FE.
 clears-high : (byte : ℕ) → clears byte ≡ true → leb 0xed byte ≡ true
-unfolding clears
 clears-high byte c = go (leb 0xed byte) refl
   where
     go : (b : Bool) → leb 0xed byte ≡ b → b ≡ true
     go true e = refl
     go false e =
         let low = leb-false 0xed byte e in
-        let inside = middle (eqb byte 0xf0) (between 0xf4 0xfd byte) (eqb byte 0xff)
-        (ne-eqb byte 0xf0 (λ h. omega arith)) (ne-eqb byte 0xff (λ h. omega arith)) c in
-        absurd (omega (arith, leb-true 0xf4 byte (left-of-both (leb 0xf4 byte) (leb byte 0xfd) inside)))
+        never (clears byte) c
+        (mild-keeps byte (record { not-f0 = λ is. omega arith; apart = inl (omega arith); not-ff = λ is. omega arith }))
 
 not-fe : (byte : ℕ) → clears byte ≡ true → eqb byte 0xfe ≡ false
 unfolding clears
@@ -60,30 +60,13 @@ not-fe byte c = go (eqb byte 0xfe) refl
     go false e = refl
 
 module _ (byte : ℕ) (d : Dock) (c : clears byte ≡ true) where
-  Emptied : Dock → Type 0
-  Emptied e = bytesOf e ≡ []
-
   -- Each of the commands that clear leaves no byte; there is no other that clears.
   obeyed-empties : bytesOf (obeyed byte d) ≡ []
-  unfolding Emptied obeyed freshWith clears
+  unfolding freshWith
   obeyed-empties =
       let none = waiting-queueOf [] in
-      by-cases Emptied (eqb byte 0xf0) _ _ (λ h. none)
-      (λ not-f0. by-cases Emptied (eqb byte 0xf4) _ _ (λ h. none)
-      (λ not-f4. by-cases Emptied (eqb byte 0xf5) _ _ (λ h. none)
-      (λ not-f5. by-cases Emptied (eqb byte 0xf6) _ _ (λ h. none)
-      (λ not-f6. by-cases Emptied (between 0xf7 0xfa byte) _ _ (λ h. none)
-      (λ not-all. by-cases Emptied (between 0xfb 0xfd byte) _ _ (λ h. none)
-      (λ not-one. by-cases Emptied (eqb byte 0xff) _ _ (λ h. none)
-      (λ not-ff.
-      let inside = middle (eqb byte 0xf0) (between 0xf4 0xfd byte) (eqb byte 0xff) not-f0 not-ff c in
-      let low = leb-true 0xf4 byte (left-of-both (leb 0xf4 byte) (leb byte 0xfd) inside) in
-      let high = leb-true byte 0xfd (right-of-both (leb 0xf4 byte) (leb byte 0xfd) inside) in
-      let a = eqb-false byte 0xf4 not-f4 in
-      let b = eqb-false byte 0xf5 not-f5 in
-      let e = eqb-false byte 0xf6 not-f6 in
-      let over = past 0xf7 0xfa byte (omega arith) not-all in
-      absurd (omega (arith, past 0xfb 0xfd byte (omega arith) not-one)))))))))
+      by-command (λ (e : Dock). bytesOf e ≡ []) byte d (λ f0. none) (λ f4. none) (λ f5. none) (λ f6. none) (λ low high. none) (λ low high. none)
+      (λ ff. none) (λ m. never (clears byte) c (mild-keeps byte m))
 
   took-empties : bytesOf (tookByte byte d) ≡ []
   unfolding tookByte commanded

@@ -4,20 +4,20 @@ use mathlib.Core.Path.{_≡_, refl}
 use mathlib.Core.Logic.{_⊎_, inl, inr, ⊎-elim}
 use mathlib.Core.Bool.{Bool, true, false}
 use mathlib.Core.List.{List, [], _∷_}
-use Prim.Native.Nat.{ℕ, _-_, _≤_, _<_}
+use Prim.Native.Nat.{ℕ, _≤_, _<_}
 use native.Mathlib.Omega.{arith}
-use borrow.Author.Tests.{eqb-true, eqb-false, leb-true, leb-false}
+use borrow.Author.Tests.{eqb-true, eqb-false, leb-false}
 use lib.Dec.{eqb, leb}
 use Rattle.basics.specs.Choice.{pick, both, either, between}
-use Rattle.basics.proofs.Flags.{left-of-both, right-of-both}
 use Rattle.dock.specs.Frame.{tookFrame, frameOf}
 use Rattle.frames.specs.declared.Unpacked.{Unpacked}
 use Rattle.frames.specs.declared.Unpacked.the-variants.{Byte, Broken, TooLarge}
 use Rattle.frames.specs.Frames.{unpackedOf}
 use Rattle.history.specs.Scans.{countedAll}
-use Rattle.commands.specs.Commands.{replying, cleared, unrepeated, readied, enabled, defaulted, disabled, typed, restarted}
-use Rattle.commands.specs.Commands.{obeyed, commanded}
-use Rattle.host.specs.Values.{rightValue, valued, tookValue, tookByte}
+use Rattle.commands.specs.Commands.{replying, cleared, unrepeated, restarted, obeyed, commanded}
+use Rattle.commands.proofs.Ladder.{Mild, by-command}
+use Rattle.host.specs.Values.{tookByte}
+use Rattle.host.proofs.Ladder.{by-value, by-byte}
 use Rattle.queue.proofs.Meaning.{places-queueOf}
 use Rattle.record.specs.declared.Dock.{Dock}
 use Rattle.record.specs.Parts.{withWaiting}
@@ -27,7 +27,7 @@ use Rattle.runs.specs.Calls.{clears, carries, isClearing}
 use Rattle.runs.specs.Onlookers.{Onlooker, sawByte, sawFrame}
 use Rattle.telling.proofs.Held.{none-agree, contact-open}
 use Rattle.basics.proofs.Zeros.{zeros-at}
-use Rattle.basics.proofs.Cases.{by-cases, picked, neither-first, neither-second, never}
+use Rattle.basics.proofs.Cases.{picked, neither-first, neither-second, never}
 use Rattle.terminal.specs.Terminals.{Terminal}
 use Rattle.agreement.proofs.Following.{Follows, closing-follows}
 use Rattle.agreement.proofs.Ready.{IsReady, Settled, same-flags, closing-settled}
@@ -59,41 +59,28 @@ fresh-ready d scans r =
     }
 
 module _ (d : Dock) (scans : List (List ℕ)) (r : IsReady d scans) (byte : ℕ) where
-  Fine : Dock → Type 0
+  abbrev Fine : Dock → Type 0
   Fine e = IsReady e scans
 
   -- Any command but the reset.
-  obeyed-ready : eqb byte 0xff ≡ false → IsReady (obeyed byte d) scans
-  unfolding obeyed Fine
+  obeyed-ready : (byte ≡ 0xff → ⊥) → IsReady (obeyed byte d) scans
   obeyed-ready other =
       let clear : Fine (cleared d) = cleared-ready scans d r in
       let calm : Fine (unrepeated (cleared d)) = unrepeated-ready scans (cleared d) clear in
-      picked Fine (eqb byte 0xf0) (readied d) _ calm
-      (picked Fine (eqb byte 0xf4) (enabled d) _ calm
-      (picked Fine (eqb byte 0xf5) (disabled d) _ calm
-      (picked Fine (eqb byte 0xf6) (defaulted d) _ calm
-      (picked Fine (between 0xf7 0xfa byte) (typed (byte - 0xf7) d) _ clear
-      (picked Fine (between 0xfb 0xfd byte) (cleared d) _ clear
-      (rw other r))))))
-
-  -- A value.
-  value-ready : IsReady (tookValue byte d) scans
-  unfolding tookValue valued Fine
-  value-ready =
-      picked Fine (rightValue (d .waiting) byte) _ _
-      (picked Fine (eqb (d .waiting) 0xed) _ _ r (picked Fine (eqb (d .waiting) 0xf0) _ _ r (picked Fine (eqb (d .waiting) 0xf3) _ _ r r)))
-      r
+      by-command Fine byte d (λ f0. calm) (λ f4. calm) (λ f5. calm) (λ f6. calm) (λ low high. clear) (λ low high. clear)
+      (λ ff. absurd (other ff)) (λ none. r)
 
   -- Any byte.
   took-ready : IsReady (tookByte byte d) (pick (eqb byte 0xff) [] scans)
-  unfolding tookByte commanded obeyed Fine
+  unfolding tookByte commanded obeyed
   took-ready = go (eqb byte 0xff) refl
     where
       go : (reset : Bool) → eqb byte 0xff ≡ reset → IsReady (tookByte byte d) (pick reset [] scans)
       go true e = rw (eqb-true byte 0xff e) (fresh-ready d scans r)
       go false e =
-          picked Fine (eqb byte 0xfe) (replying (d .given ∷ []) d) (pick (leb 0xed byte) (commanded byte d) (tookValue byte d)) r
-          (picked Fine (leb 0xed byte) (commanded byte d) (tookValue byte d) (obeyed-ready e) value-ready)
+          by-byte Fine byte d (λ fe. r) (λ other high. obeyed-ready (eqb-false byte 0xff e))
+          (λ low right. by-value Fine byte d (λ ed. r) (λ f0. r) (λ f3. r) r)
+          (λ low wrong. r)
 
 -- The call, refused or not.
 pub frame-settled : (d : Dock) (o : Onlooker) (number : ℕ) → inRange d ≡ true → Settled d (o .scans)
@@ -106,12 +93,7 @@ frame-settled d o number range s = rw range (go (unpackedOf number))
     go Broken = closing-settled (replying (0xfe ∷ []) d) (o .scans) (s .ready)
     go TooLarge = s
 
--- A byte that does not clear the queue, in numbers.
-pub record Mild (byte : ℕ) : Type 0 where
-  pub not-f0 : byte ≡ 0xf0 → ⊥
-  pub apart : (byte < 0xf4) ⊎ (0xfd < byte)
-  pub not-ff : byte ≡ 0xff → ⊥
-
+-- A byte that does not clear the queue is none of the commands that do something.
 pub mild : (byte : ℕ) → clears byte ≡ false → Mild byte
 unfolding clears
 mild byte c =
@@ -128,29 +110,19 @@ mild byte c =
     go true false l h none = inr (leb-false byte 0xfd h)
     go true true l h none = never true refl none
 
-module _ (byte : ℕ) where
-  -- A number between two of those that clear is not mild.
-  inside : Mild byte → (low high : ℕ) → 0xf4 ≤ low → high ≤ 0xfd → between low high byte ≡ true → ⊥
-  inside m low high a b h =
-      let from = leb-true low byte (left-of-both (leb low byte) (leb byte high) h) in
-      let to = leb-true byte high (right-of-both (leb low byte) (leb byte high) h) in
-      ⊎-elim (λ l. omega arith) (λ l. omega arith) (m .apart)
-
-  equal : Mild byte → (n : ℕ) → 0xf4 ≤ n → n ≤ 0xfd → eqb byte n ≡ true → ⊥
-  equal m n a b h = let is = eqb-true byte n h in ⊎-elim (λ l. omega arith) (λ l. omega arith) (m .apart)
-
-  -- A mild command changes nothing.
-  pub obeyed-mild : (d : Dock) → Mild byte → obeyed byte d ≡ d
-  unfolding obeyed
-  obeyed-mild d m =
-      let Same : Dock → Type 0 = λ (e : Dock). e ≡ d in
-      by-cases Same (eqb byte 0xf0) _ _ (λ h. absurd (m .not-f0 (eqb-true byte 0xf0 h)))
-      (λ h. by-cases Same (eqb byte 0xf4) _ _ (λ h. absurd (equal m 0xf4 (omega arith) (omega arith) h))
-      (λ h. by-cases Same (eqb byte 0xf5) _ _ (λ h. absurd (equal m 0xf5 (omega arith) (omega arith) h))
-      (λ h. by-cases Same (eqb byte 0xf6) _ _ (λ h. absurd (equal m 0xf6 (omega arith) (omega arith) h))
-      (λ h. by-cases Same (between 0xf7 0xfa byte) _ _ (λ h. absurd (inside m 0xf7 0xfa (omega arith) (omega arith) h))
-      (λ h. by-cases Same (between 0xfb 0xfd byte) _ _ (λ h. absurd (inside m 0xfb 0xfd (omega arith) (omega arith) h))
-      (λ h. by-cases Same (eqb byte 0xff) _ _ (λ h. absurd (m .not-ff (eqb-true byte 0xff h))) (λ h. refl)))))))
+-- A mild command changes nothing.
+pub obeyed-mild : (byte : ℕ) (d : Dock) → Mild byte → obeyed byte d ≡ d
+obeyed-mild byte d m =
+    let outside : 0xf4 ≤ byte → byte ≤ 0xfd → ⊥ = λ low high. ⊎-elim (λ l. omega arith) (λ l. omega arith) (m .apart) in
+    by-command (λ (e : Dock). e ≡ d) byte d
+    (λ f0. absurd (m .not-f0 f0))
+    (λ f4. absurd (outside (omega arith) (omega arith)))
+    (λ f5. absurd (outside (omega arith) (omega arith)))
+    (λ f6. absurd (outside (omega arith) (omega arith)))
+    (λ low high. absurd (outside (omega arith) (omega arith)))
+    (λ low high. absurd (outside (omega arith) (omega arith)))
+    (λ ff. absurd (m .not-ff ff))
+    (λ none. refl)
 
 module _ (d : Dock) (t : Terminal) (f : Follows d t) (byte : ℕ) where
   commanded-follows : Mild byte → Follows (commanded byte d) t
@@ -163,26 +135,14 @@ module _ (d : Dock) (t : Terminal) (f : Follows d t) (byte : ℕ) where
         told = f .told;
       })
 
-  -- A value: only that of F0 chooses a set.
-  value-follows : Follows (tookValue byte d) t
-  unfolding tookValue valued
-  value-follows =
-      let Fine : Dock → Type 0 = λ (e : Dock). Follows (replying (0xfa ∷ []) (withWaiting e 0)) t in
-      let same : Follows (withWaiting d 0) t = record { chosen = f .chosen; firm = λ e. omega arith; told = f .told } in
-      picked (λ (e : Dock). Follows e t) (rightValue (d .waiting) byte) _ _
-      (picked Fine (eqb (d .waiting) 0xed) _ _ same
-      (by-cases Fine (eqb (d .waiting) 0xf0) _ _ (λ h. absurd (f .firm (eqb-true (d .waiting) 0xf0 h)))
-      (λ h.
-      picked Fine (eqb (d .waiting) 0xf3) _ _ same
-      same)))
-      f
-
+  -- Any byte; of the values only that of F0 chooses a set.
   took-follows : clears byte ≡ false → Follows (tookByte byte d) t
-  unfolding tookByte
   took-follows c =
-      let Fine : Dock → Type 0 = λ (e : Dock). Follows e t in
-      picked Fine (eqb byte 0xfe) (replying (d .given ∷ []) d) _ f
-      (picked Fine (leb 0xed byte) (commanded byte d) (tookValue byte d) (commanded-follows (mild byte c)) value-follows)
+      let same : Follows (withWaiting d 0) t = record { chosen = f .chosen; firm = λ e. omega arith; told = f .told } in
+      by-byte (λ (e : Dock). Follows e t) byte d (λ fe. f) (λ other high. commanded-follows (mild byte c))
+      (λ low right. by-value (λ (e : Dock). Follows (replying (0xfa ∷ []) (withWaiting e 0)) t) byte d
+      (λ ed. same) (λ f0. absurd (f .firm f0)) (λ f3. same) same)
+      (λ low wrong. f)
 
 -- The call, refused or not.
 pub frame-follows : (d : Dock) (t : Terminal) (number : ℕ) → inRange d ≡ true → isClearing number ≡ false → Follows d t

@@ -1,16 +1,18 @@
 -- What the onlooker knows is so: the map, whether scanning is on, the command that waits and the set are those of the dock, whatever is
 -- called. And the set stays where no byte clears the queue. Assumes nothing.
 use mathlib.Core.Path.{_≡_, refl, sym, ap, ap₂, _∙_}
+use mathlib.Core.Logic.{⊎-elim}
 use mathlib.Core.Bool.{Bool, true, false}
 use mathlib.Core.List.{List, [], _∷_}
-use Prim.Native.Nat.{ℕ, _-_, _≤_, _<_}
+use Prim.Native.Nat.{ℕ, _≤_, _<_}
 use native.Mathlib.Omega.{arith}
-use borrow.Author.Tests.{eqb-true, eqb-false, leb-true, leb-false, ne-eqb, lt-leb}
+use borrow.Author.Tests.{eqb-true, leb-true, leb-false, ne-eqb, lt-leb}
 use lib.Dec.{eqb, leb}
-use Rattle.basics.specs.Choice.{pick, both, between}
+use Rattle.basics.specs.Choice.{pick, both}
 use Rattle.basics.proofs.Cases.{by-cases, picked, two-by-cases}
-use Rattle.basics.proofs.Flags.{right-of-both, both-false}
-use Rattle.commands.specs.Commands.{cleared, readied, enabled, defaulted, disabled, typed, restarted, obeyed, replying, commanded}
+use Rattle.basics.proofs.Flags.{both-false}
+use Rattle.commands.specs.Commands.{obeyed, replying, commanded}
+use Rattle.commands.proofs.Ladder.{Mild, by-command}
 use Rattle.dock.specs.Closing.{closing, withHanded}
 use Rattle.dock.specs.Frame.{tookFrame, frameOf}
 use Rattle.dock.specs.Read.{readOf}
@@ -20,6 +22,7 @@ use Rattle.frames.specs.declared.Unpacked.{Unpacked}
 use Rattle.frames.specs.declared.Unpacked.the-variants.{Byte, Broken, TooLarge}
 use Rattle.frames.specs.Frames.{unpackedOf}
 use Rattle.host.specs.Values.{rightValue, valued, tookValue, tookByte}
+use Rattle.host.proofs.Ladder.{by-value, by-byte}
 use Rattle.keying.specs.Handover.{handedOver}
 use Rattle.range.specs.Range.{inRange, takesValue}
 use Rattle.record.specs.declared.Dock.{Dock}
@@ -30,7 +33,7 @@ use Rattle.runs.specs.Calls.{clears, carries, isClearing}
 use Rattle.runs.specs.Onlookers.{Onlooker, onlooker, sawScan, isMap, sawSwap, scanningAfter, waitingAfter, setAfter, sawByte, sawFrame}
 use Rattle.runs.specs.Rules.{oneOf, valuesFor}
 use Rattle.agreement.proofs.Rules.{waits-same, right-same}
-use Rattle.agreement.proofs.Framed.{Mild, mild, obeyed-mild}
+use Rattle.agreement.proofs.Framed.{mild, obeyed-mild}
 use Rattle.agreement.proofs.Staying.{Stays, scan-stays, read-stays, swap-stays}
 
 -- A byte from the host that turns scanning neither on nor off.
@@ -61,44 +64,29 @@ unfolding oneOf
 low-chosen byte low =
     rw (ne-eqb byte 0xf5 (λ e. omega arith), ne-eqb byte 0xf6 (λ e. omega arith), ne-eqb byte 0xff (λ e. omega arith))
 
+-- A mild byte is none of those from F4 to FD.
+mild-not : {byte : ℕ} → Mild byte → (n : ℕ) → 0xf4 ≤ n → n ≤ 0xfd → byte ≡ n → ⊥
+mild-not m n low high is = ⊎-elim (λ l. omega arith) (λ l. omega arith) (m .apart)
+
 module _ (d : Dock) (byte : ℕ) where
-  Turned : Dock → Type 0
-  Turned e = e .scanning ≡ scanningAfter byte (d .scanning)
-
-  obeyed-scanning : Turned (obeyed byte d)
-  unfolding obeyed scanningAfter freshWith Turned
-  obeyed-scanning =
-      by-cases Turned (eqb byte 0xf0) (readied d) _ (λ h. rw (eqb-true byte 0xf0 h))
-      (λ h. by-cases Turned (eqb byte 0xf4) (enabled d) _ (λ h. rw (eqb-true byte 0xf4 h))
-      (λ on. by-cases Turned (eqb byte 0xf5) (disabled d) _ (λ h. rw (eqb-true byte 0xf5 h))
-      (λ off. by-cases Turned (eqb byte 0xf6) (defaulted d) _ (λ h. rw (eqb-true byte 0xf6 h))
-      (λ h. by-cases Turned (between 0xf7 0xfa byte) (typed (byte - 0xf7) d) _
-      (λ h.
-      let most = leb-true byte 0xfa (right-of-both (leb 0xf7 byte) (leb byte 0xfa) h) in
-      unturned byte (d .scanning) (eqb-false byte 0xf4 on) (eqb-false byte 0xf5 off) (λ e. omega arith))
-      (λ h. by-cases Turned (between 0xfb 0xfd byte) (cleared d) _
-      (λ h.
-      let most = leb-true byte 0xfd (right-of-both (leb 0xfb byte) (leb byte 0xfd) h) in
-      unturned byte (d .scanning) (eqb-false byte 0xf4 on) (eqb-false byte 0xf5 off) (λ e. omega arith))
-      (λ h. by-cases Turned (eqb byte 0xff) (restarted d) d (λ h. rw (eqb-true byte 0xff h))
-      (λ reset. unturned byte (d .scanning) (eqb-false byte 0xf4 on) (eqb-false byte 0xf5 off) (eqb-false byte 0xff reset))))))))
-
-  value-scanning : tookValue byte d .scanning ≡ d .scanning
-  unfolding tookValue valued
-  value-scanning =
-      let Same : Dock → Type 0 = λ (e : Dock). e .scanning ≡ d .scanning in
-      picked Same (rightValue (d .waiting) byte) _ _
-      (picked Same (eqb (d .waiting) 0xed) _ _ refl (picked Same (eqb (d .waiting) 0xf0) _ _ refl (picked Same (eqb (d .waiting) 0xf3) _ _ refl refl)))
-      refl
-
   took-scanning : tookByte byte d .scanning ≡ scanningAfter byte (d .scanning)
-  unfolding tookByte commanded scanningAfter Turned
+  unfolding commanded scanningAfter freshWith
   took-scanning =
-      by-cases Turned (eqb byte 0xfe) (replying (d .given ∷ []) d) _ (λ h. rw (eqb-true byte 0xfe h))
-      (λ h. by-cases Turned (leb 0xed byte) (commanded byte d) (tookValue byte d) (λ h. obeyed-scanning)
-      (λ h.
-      let small = leb-false 0xed byte h in
-      value-scanning ∙ unturned byte (d .scanning) (λ e. omega arith) (λ e. omega arith) (λ e. omega arith)))
+      let Turned : Dock → Type 0 = λ (e : Dock). e .scanning ≡ scanningAfter byte (d .scanning) in
+      let low-stays : byte < 0xed → d .scanning ≡ scanningAfter byte (d .scanning) =
+      λ low. unturned byte (d .scanning) (λ e. omega arith) (λ e. omega arith) (λ e. omega arith) in
+      by-byte Turned byte d (λ fe. rw fe)
+      (λ other high. by-command Turned byte d
+      (λ f0. rw f0)
+      (λ f4. rw f4)
+      (λ f5. rw f5)
+      (λ f6. rw f6)
+      (λ low high. unturned byte (d .scanning) (λ e. omega arith) (λ e. omega arith) (λ e. omega arith))
+      (λ low high. unturned byte (d .scanning) (λ e. omega arith) (λ e. omega arith) (λ e. omega arith))
+      (λ ff. rw ff)
+      (λ m. unturned byte (d .scanning) (mild-not m 0xf4 (omega arith) (omega arith)) (mild-not m 0xf5 (omega arith) (omega arith)) (m .not-ff)))
+      (λ low right. by-value Turned byte d (λ ed. low-stays low) (λ f0. low-stays low) (λ f3. low-stays low) (low-stays low))
+      (λ low wrong. low-stays low)
 
   took-waiting : tookByte byte d .waiting ≡ waitingAfter byte (d .waiting)
   unfolding tookByte commanded tookValue waitingAfter
@@ -115,43 +103,31 @@ module _ (d : Dock) (byte : ℕ) where
       go false false false = refl
 
   took-map : tookByte byte d .map ≡ d .map
-  unfolding tookByte commanded obeyed tookValue valued freshWith
+  unfolding commanded freshWith
   took-map =
       let Same : Dock → Type 0 = λ (e : Dock). e .map ≡ d .map in
-      picked Same (eqb byte 0xfe) (replying (d .given ∷ []) d) _ refl
-      (picked Same (leb 0xed byte) (commanded byte d) (tookValue byte d)
-      (picked Same (eqb byte 0xf0) (readied d) _ refl
-      (picked Same (eqb byte 0xf4) (enabled d) _ refl
-      (picked Same (eqb byte 0xf5) (disabled d) _ refl
-      (picked Same (eqb byte 0xf6) (defaulted d) _ refl
-      (picked Same (between 0xf7 0xfa byte) (typed (byte - 0xf7) d) _ refl
-      (picked Same (between 0xfb 0xfd byte) (cleared d) _ refl
-      (picked Same (eqb byte 0xff) (restarted d) d refl refl)))))))
-      (picked Same (rightValue (d .waiting) byte) _ _
-      (picked Same (eqb (d .waiting) 0xed) _ _ refl (picked Same (eqb (d .waiting) 0xf0) _ _ refl (picked Same (eqb (d .waiting) 0xf3) _ _ refl refl)))
-      refl))
+      by-byte Same byte d (λ fe. refl)
+      (λ other high. by-command Same byte d (λ f0. refl) (λ f4. refl) (λ f5. refl) (λ f6. refl) (λ low high. refl) (λ low high. refl) (λ ff. refl)
+      (λ none. refl))
+      (λ low right. by-value Same byte d (λ ed. refl) (λ f0. refl) (λ f3. refl) refl)
+      (λ low wrong. refl)
 
   -- A command: F5, F6 and FF choose set 2, and no other chooses one.
   Chosen : Dock → Type 0
   Chosen e = e .mode .set ≡ pick (oneOf byte (0xf5 ∷ 0xf6 ∷ 0xff ∷ [])) 2 (d .mode .set)
 
   obeyed-chosen : Chosen (obeyed byte d)
-  unfolding obeyed oneOf freshWith Chosen
+  unfolding oneOf freshWith Chosen
   obeyed-chosen =
-      by-cases Chosen (eqb byte 0xf0) (readied d) _ (λ h. rw (eqb-true byte 0xf0 h))
-      (λ h. by-cases Chosen (eqb byte 0xf4) (enabled d) _ (λ h. rw (eqb-true byte 0xf4 h))
-      (λ h. by-cases Chosen (eqb byte 0xf5) (disabled d) _ (λ h. rw (eqb-true byte 0xf5 h))
-      (λ off. by-cases Chosen (eqb byte 0xf6) (defaulted d) _ (λ h. rw (eqb-true byte 0xf6 h))
-      (λ default. by-cases Chosen (between 0xf7 0xfa byte) (typed (byte - 0xf7) d) _
-      (λ h.
-      let most = leb-true byte 0xfa (right-of-both (leb 0xf7 byte) (leb byte 0xfa) h) in
-      unchosen byte (d .mode .set) (eqb-false byte 0xf5 off) (eqb-false byte 0xf6 default) (λ e. omega arith))
-      (λ h. by-cases Chosen (between 0xfb 0xfd byte) (cleared d) _
-      (λ h.
-      let most = leb-true byte 0xfd (right-of-both (leb 0xfb byte) (leb byte 0xfd) h) in
-      unchosen byte (d .mode .set) (eqb-false byte 0xf5 off) (eqb-false byte 0xf6 default) (λ e. omega arith))
-      (λ h. by-cases Chosen (eqb byte 0xff) (restarted d) d (λ h. rw (eqb-true byte 0xff h))
-      (λ reset. unchosen byte (d .mode .set) (eqb-false byte 0xf5 off) (eqb-false byte 0xf6 default) (eqb-false byte 0xff reset))))))))
+      by-command Chosen byte d
+      (λ f0. rw f0)
+      (λ f4. rw f4)
+      (λ f5. rw f5)
+      (λ f6. rw f6)
+      (λ low high. unchosen byte (d .mode .set) (λ e. omega arith) (λ e. omega arith) (λ e. omega arith))
+      (λ low high. unchosen byte (d .mode .set) (λ e. omega arith) (λ e. omega arith) (λ e. omega arith))
+      (λ ff. rw ff)
+      (λ m. unchosen byte (d .mode .set) (mild-not m 0xf5 (omega arith) (omega arith)) (mild-not m 0xf6 (omega arith) (omega arith)) (m .not-ff))
 
   -- A value: that of F0 is the set.
   value-chosen : byte < 0xed → tookValue byte d .mode .set ≡ setAfter byte (d .waiting) (d .mode .set)
@@ -186,17 +162,12 @@ module _ (d : Dock) (byte : ℕ) where
 
   -- Only F0 and its value choose a set.
   took-set : Mild byte → (d .waiting ≡ 0xf0 → ⊥) → tookByte byte d .mode .set ≡ d .mode .set
-  unfolding tookByte commanded tookValue valued
+  unfolding commanded
   took-set m firm =
       let Same : Dock → Type 0 = λ (e : Dock). e .mode .set ≡ d .mode .set in
-      picked Same (eqb byte 0xfe) (replying (d .given ∷ []) d) _ refl
-      (picked Same (leb 0xed byte) (commanded byte d) (tookValue byte d)
-      (ap (λ (e : Dock). e .mode .set) (obeyed-mild byte d m))
-      (picked Same (rightValue (d .waiting) byte) _ _
-      (picked Same (eqb (d .waiting) 0xed) _ _ refl
-      (by-cases Same (eqb (d .waiting) 0xf0) _ _ (λ h. absurd (firm (eqb-true (d .waiting) 0xf0 h)))
-      (λ h. picked Same (eqb (d .waiting) 0xf3) _ _ refl refl)))
-      refl))
+      by-byte Same byte d (λ fe. refl) (λ other high. ap (λ (e : Dock). e .mode .set) (obeyed-mild byte d m))
+      (λ low right. by-value Same byte d (λ ed. refl) (λ f0. absurd (firm f0)) (λ f3. refl) refl)
+      (λ low wrong. refl)
 
 -- What the onlooker knows is so.
 abbrev pub Knows : Dock → Onlooker → Type 0

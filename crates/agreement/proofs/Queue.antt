@@ -7,7 +7,7 @@ use mathlib.Core.List.{List, [], _∷_, _++_, append-nil, append-assoc}
 use Prim.Native.Nat.{ℕ, _≤_}
 use native.Mathlib.Omega.{arith}
 use borrow.Author.Tests.{eqb-false, not-true}
-use lib.Dec.{eqb, leb}
+use lib.Dec.{eqb}
 use lib.ListN.{length, getD, drop}
 use Rattle.basics.specs.Choice.{pick, either}
 use Rattle.basics.specs.Lists.{allUpTo}
@@ -26,7 +26,8 @@ use Rattle.frames.specs.declared.Unpacked.{Unpacked}
 use Rattle.frames.specs.declared.Unpacked.the-variants.{Byte, Broken, TooLarge}
 use Rattle.frames.specs.Frames.{unpackedOf}
 use Rattle.commands.specs.Commands.{replying, commanded}
-use Rattle.host.specs.Values.{rightValue, valued, tookValue, tookByte}
+use Rattle.host.specs.Values.{tookByte}
+use Rattle.host.proofs.Ladder.{by-value, by-byte}
 use Rattle.maps.specs.Maps.{hasDouble}
 use Rattle.queue.specs.Queues.{waiting}
 use Rattle.queue.proofs.Meaning.{waiting-queueOf}
@@ -68,18 +69,12 @@ module _ (d : Dock) where
 
   -- Nor does a byte from the host, unless it clears the queue.
   took-keys : (byte : ℕ) → clears byte ≡ false → tookByte byte d .keys ≡ d .keys
-  unfolding tookByte commanded tookValue valued
+  unfolding commanded
   took-keys byte mildly =
       let Same : Dock → Type 0 = λ (e : Dock). e .keys ≡ d .keys in
-      picked Same (eqb byte 0xfe) _ _ refl
-      (picked Same (leb 0xed byte) (commanded byte d) (tookValue byte d)
-      (ap (λ (e : Dock). e .keys) (obeyed-mild byte d (mild byte mildly)))
-      (picked Same (rightValue (d .waiting) byte) _ _
-      (picked Same (eqb (d .waiting) 0xed) _ _ refl
-      (picked Same (eqb (d .waiting) 0xf0) _ _ refl
-      (picked Same (eqb (d .waiting) 0xf3) _ _ refl
-      refl)))
-      refl))
+      by-byte Same byte d (λ fe. refl) (λ other high. ap (λ (e : Dock). e .keys) (obeyed-mild byte d (mild byte mildly)))
+      (λ low right. by-value Same byte d (λ ed. refl) (λ f0. refl) (λ f3. refl) refl)
+      (λ low wrong. refl)
 
   frame-bytes : (number : ℕ) → inRange d ≡ true → isClearing number ≡ false
       → bytesOf (frameOf d number .dock) ≡ bytesOf d ++ queuedBy d (Frame number)

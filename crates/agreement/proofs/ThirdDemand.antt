@@ -12,16 +12,13 @@ use lib.Seq.{getD-set-other}
 use Rattle.basics.specs.Choice.{both, between}
 use Rattle.basics.proofs.Flags.{left-of-both, right-of-both}
 use Rattle.basics.proofs.Cases.{never}
-use Rattle.dock.specs.Scan.{quiet}
 use Rattle.history.specs.Scans.{saysHeld}
-use Rattle.runs.specs.Calls.{Call}
 use Rattle.runs.specs.Machines.{ours, nothingWaits}
 use Rattle.runs.specs.Worlds.{World, woken, afterCalls}
 use Rattle.runs.specs.Runs.{noneHeldFrom, mayBegin, beginning}
-use Rattle.runs.specs.Demand.{endOf, Premises, ThirdDemand}
+use Rattle.runs.specs.Demand.{endOf, ThirdDemand}
 use Rattle.telling.proofs.Told.{told-empty, empty-told}
 use Rattle.terminal.specs.Terminals.{Terminal, terminal, begun}
-use Rattle.agreement.proofs.Following.{Follows}
 use Rattle.agreement.proofs.SaidHeld.{held-is-said, none-held, zeros-by-place}
 use Rattle.agreement.proofs.Taken.{nothing-is-quiet}
 use Rattle.agreement.proofs.AnyCalls.{Sound, woken-sound, begun-sound, any-sound, InStep, any-in-step}

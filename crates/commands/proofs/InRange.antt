@@ -6,7 +6,7 @@ use Prim.Native.Nat.{ℕ, suc, _-_, _≤_}
 use native.Mathlib.Omega.{arith}
 use lib.Dec.{eqb}
 use lib.ListN.{length, replicate}
-use Rattle.basics.specs.Choice.{pick, either, between}
+use Rattle.basics.specs.Choice.{pick, either}
 use Rattle.basics.proofs.Cases.{picked, either-true}
 use Rattle.keys.specs.Keys.{lastKey}
 use Rattle.queue.specs.Queues.{queueOf}
@@ -22,7 +22,8 @@ use Rattle.range.proofs.Ranges.{in-range-with-keys, in-range-with-types, in-ran
 use Rattle.range.proofs.Ranges.{in-range-with-replies, in-range-with-waiting, in-range-with-scanning}
 use Rattle.range.proofs.PowerOn.{fresh-in-range}
 use Rattle.commands.specs.Commands.{replying, cleared, unrepeated, quietened, withSet, withRate}
-use Rattle.commands.specs.Commands.{readied, enabled, defaulted, disabled, typed, restarted, obeyed, replyTo, commanded}
+use Rattle.commands.specs.Commands.{defaulted, typed, restarted, obeyed, replyTo, commanded}
+use Rattle.commands.proofs.Ladder.{by-command}
 
 abbrev Short : List ℕ → Type 0
 Short l = length l ≤ 3
@@ -83,15 +84,16 @@ module _ (d : Dock) (h : inRange d ≡ true) where
 
   -- A command, row by row.
   obeyed-in-range : (byte : ℕ) → inRange (obeyed byte d) ≡ true
-  unfolding obeyed
   obeyed-in-range byte =
-      picked InRange (eqb byte 0xf0) (readied d) _ (rate-in-range (quietened d) quietened-in-range defaultRate (omega arith))
-      (picked InRange (eqb byte 0xf4) (enabled d) _ (in-range-with-scanning (quietened d) quietened-in-range true)
-      (picked InRange (eqb byte 0xf5) (disabled d) _ (in-range-with-scanning (defaulted d) defaulted-in-range false)
-      (picked InRange (eqb byte 0xf6) (defaulted d) _ defaulted-in-range
-      (picked InRange (between 0xf7 0xfa byte) (typed (byte - 0xf7) d) _ (typed-in-range (byte - 0xf7))
-      (picked InRange (between 0xfb 0xfd byte) (cleared d) _ (cleared-in-range d h)
-      (picked InRange (eqb byte 0xff) (restarted d) d (restarted-in-range d h) h))))))
+      by-command InRange byte d
+      (λ f0. rate-in-range (quietened d) quietened-in-range defaultRate (omega arith))
+      (λ f4. in-range-with-scanning (quietened d) quietened-in-range true)
+      (λ f5. in-range-with-scanning (defaulted d) defaulted-in-range false)
+      (λ f6. defaulted-in-range)
+      (λ low high. typed-in-range (byte - 0xf7))
+      (λ low high. cleared-in-range d h)
+      (λ ff. restarted-in-range d h)
+      (λ none. h)
 
   pub commanded-in-range : (byte : ℕ) → inRange (commanded byte d) ≡ true
   unfolding commanded

@@ -1,10 +1,9 @@
 -- The contacts keep their sizes, whatever is called. Assumes nothing.
 use mathlib.Core.Path.{_≡_, refl, _∙_}
 use mathlib.Core.List.{List}
-use Prim.Native.Nat.{ℕ, _-_}
-use lib.Dec.{eqb, leb}
+use Prim.Native.Nat.{ℕ}
+use lib.Dec.{eqb}
 use lib.ListN.{length}
-use Rattle.basics.specs.Choice.{between}
 use Rattle.basics.specs.Lists.{allUpTo}
 use Rattle.basics.proofs.Cases.{picked}
 use Rattle.keys.specs.Keys.{lastKey}
@@ -13,8 +12,10 @@ use Rattle.contacts.proofs.Pointwise.{closed-length, counts-length}
 use Rattle.frames.specs.declared.Unpacked.{Unpacked}
 use Rattle.frames.specs.declared.Unpacked.the-variants.{Byte, Broken, TooLarge}
 use Rattle.frames.specs.Frames.{unpackedOf}
-use Rattle.commands.specs.Commands.{readied, enabled, defaulted, disabled, typed, cleared, restarted, obeyed, commanded}
-use Rattle.host.specs.Values.{rightValue, valued, tookValue, tookByte}
+use Rattle.commands.specs.Commands.{obeyed, commanded}
+use Rattle.commands.proofs.Ladder.{by-command}
+use Rattle.host.specs.Values.{valued, tookByte}
+use Rattle.host.proofs.Ladder.{by-value, by-byte}
 use Rattle.maps.specs.Maps.{hasDouble}
 use Rattle.record.specs.declared.Dock.{Dock}
 use Rattle.record.specs.Parts.{withMap}
@@ -94,32 +95,19 @@ swap-sizes d map s =
 
 -- A frame.
 obeyed-sizes : (byte : ℕ) (d : Dock) → Sizes d → Sizes (obeyed byte d)
-unfolding obeyed freshWith
+unfolding freshWith
 obeyed-sizes byte d s =
-    picked Sizes (eqb byte 0xf0) (readied d) _ (like d _ s refl)
-    (picked Sizes (eqb byte 0xf4) (enabled d) _ (like d _ s refl)
-    (picked Sizes (eqb byte 0xf5) (disabled d) _ (like d _ s refl)
-    (picked Sizes (eqb byte 0xf6) (defaulted d) _ (like d _ s refl)
-    (picked Sizes (between 0xf7 0xfa byte) (typed (byte - 0xf7) d) _ (like d _ s refl)
-    (picked Sizes (between 0xfb 0xfd byte) (cleared d) _ (like d _ s refl)
-    (picked Sizes (eqb byte 0xff) (restarted d) d (record { closed = refl; counts = refl }) s))))))
-
-valued-sizes : (command value : ℕ) (d : Dock) → Sizes d → Sizes (valued command value d)
-unfolding valued
-valued-sizes command value d s =
-    picked Sizes (eqb command 0xed) _ _ (like d _ s refl)
-    (picked Sizes (eqb command 0xf0) _ _ (like d _ s refl)
-    (picked Sizes (eqb command 0xf3) _ _ (like d _ s refl) (like d _ s refl)))
+    by-command Sizes byte d (λ f0. like d _ s refl) (λ f4. like d _ s refl) (λ f5. like d _ s refl) (λ f6. like d _ s refl)
+    (λ low high. like d _ s refl) (λ low high. like d _ s refl) (λ ff. record { closed = refl; counts = refl }) (λ none. s)
 
 took-sizes : (byte : ℕ) (d : Dock) → Sizes d → Sizes (tookByte byte d)
-unfolding tookByte commanded tookValue
+unfolding commanded
 took-sizes byte d s =
-    picked Sizes (eqb byte 0xfe) _ _ (like d _ s refl)
-    (picked Sizes (leb 0xed byte) _ _
-    (like (obeyed byte d) _ (obeyed-sizes byte d s) refl)
-    (picked Sizes (rightValue (d .waiting) byte) _ _
-    (like (valued (d .waiting) byte d) _ (valued-sizes (d .waiting) byte d s) refl)
-    (like d _ s refl)))
+    by-byte Sizes byte d (λ fe. like d _ s refl)
+    (λ other high. like (obeyed byte d) _ (obeyed-sizes byte d s) refl)
+    (λ low right. like (valued (d .waiting) byte d) _
+    (by-value Sizes byte d (λ ed. like d _ s refl) (λ f0. like d _ s refl) (λ f3. like d _ s refl) (like d _ s refl)) refl)
+    (λ low wrong. like d _ s refl)
 
 framed-sizes : (unpacked : Unpacked) (d : Dock) → Sizes d → Sizes (tookFrame unpacked d .dock)
 unfolding tookFrame

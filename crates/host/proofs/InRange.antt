@@ -7,16 +7,16 @@ use native.Mathlib.Omega.{arith}
 use borrow.Author.Tests.{leb-true}
 use lib.Dec.{eqb, leb}
 use Rattle.basics.specs.Choice.{pick, both, between}
-use Rattle.basics.proofs.Cases.{by-cases, picked}
 use Rattle.basics.proofs.Flags.{left-of-both, right-of-both}
 use Rattle.lookup.specs.Lookup.{keyWith}
 use Rattle.record.specs.declared.Dock.{Dock}
 use Rattle.range.specs.Range.{inRange}
 use Rattle.range.proofs.Ranges.{good-mode, good-mode-set, good-mode-rate, in-range-mode}
 use Rattle.range.proofs.Ranges.{in-range-with-types, in-range-with-mode, in-range-with-waiting}
-use Rattle.commands.specs.Commands.{withSet, withRate, commanded}
+use Rattle.commands.specs.Commands.{withSet, withRate}
 use Rattle.commands.proofs.InRange.{InRange, replying-in-range, set-in-range, rate-in-range, commanded-in-range}
-use Rattle.host.specs.Values.{withIndicators, withType, rightValue, valued, tookValue, tookByte}
+use Rattle.host.specs.Values.{withIndicators, withType, rightValue, valued, tookByte}
+use Rattle.host.proofs.Ladder.{by-byte}
 
 module _ (d : Dock) (h : inRange d ≡ true) where
   indicators-in-range : (indicators : ℕ) → indicators ≤ 7 → inRange (withIndicators indicators d) ≡ true
@@ -41,16 +41,12 @@ module _ (d : Dock) (h : inRange d ≡ true) where
       go key false false true e = rate-in-range d h value (leb-true value 127 e)
       go key false false false e = type-in-range key (command - 0xfb)
 
-  value-in-range : (byte : ℕ) → inRange (tookValue byte d) ≡ true
-  unfolding tookValue
-  value-in-range byte =
-      by-cases InRange (rightValue (d .waiting) byte) _ _
-      (λ e. replying-in-range _ (in-range-with-waiting (valued (d .waiting) byte d) (valued-in-range (d .waiting) byte e) 0 refl) (0xfa ∷ []) (omega arith))
-      (λ e. replying-in-range d h (0xfe ∷ []) (omega arith))
-
   -- Any byte.
   pub took-in-range : (byte : ℕ) → inRange (tookByte byte d) ≡ true
-  unfolding tookByte
   took-in-range byte =
-      picked InRange (eqb byte 0xfe) _ _ (replying-in-range d h (d .given ∷ []) (omega arith))
-      (picked InRange (leb 0xed byte) (commanded byte d) (tookValue byte d) (commanded-in-range d h byte) (value-in-range byte))
+      by-byte InRange byte d
+      (λ fe. replying-in-range d h (d .given ∷ []) (omega arith))
+      (λ other high. commanded-in-range d h byte)
+      (λ low right.
+      replying-in-range _ (in-range-with-waiting (valued (d .waiting) byte d) (valued-in-range (d .waiting) byte right) 0 refl) (0xfa ∷ []) (omega arith))
+      (λ low wrong. replying-in-range d h (0xfe ∷ []) (omega arith))

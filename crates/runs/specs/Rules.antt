@@ -2,7 +2,7 @@
 -- which values are right. They are said here a second time, in the words of the rules, and not taken from the dock's definitions:
 -- agreement/proofs/Rules shows that the dock goes by the same. Assumes nothing.
 use Prim.Native.Nat.{ℕ, zero, suc, _+_, _*_, _/_, _%_, _^_}
-use mathlib.Core.Bool.{Bool, true, false}
+use mathlib.Core.Bool.{Bool, false}
 use mathlib.Core.List.{List, [], _∷_, map}
 use lib.Dec.{eqb, leb}
 use Rattle.basics.specs.Choice.{pick, either}

@@ -1,5 +1,5 @@
 -- The third demand of the bench: it speaks of the calls of any session, and the bench's dock is the one that they leave. Assumes nothing.
-use mathlib.Core.Path.{_≡_, refl, sym, ap, _∙_}
+use mathlib.Core.Path.{_≡_, refl, ap, _∙_}
 use mathlib.Core.List.{List, [], _∷_, _++_}
 use Prim.Native.Nat.{ℕ, _≤_}
 use Rattle.keys.specs.Keys.{lastKey}

@@ -1,22 +1,20 @@
 -- A session of lines is a list of calls: it leaves the dock that they leave, and what a line prints is what its call is answered with.
 -- Assumes nothing.
 use mathlib.Core.Path.{_≡_, refl, sym, ap, _∙_}
-use mathlib.Core.List.{List, [], _∷_, _++_}
+use mathlib.Core.List.{List, [], _∷_}
 use Prim.Native.Nat.{ℕ}
-use Rattle.digits.specs.Digits.{bytesFrom, frameIn}
 use Rattle.dock.specs.Scan.{scanOf}
-use Rattle.lines.specs.declared.Stepped.{Stepped}
 use Rattle.lines.specs.Steps.{stepBy, stepOf}
 use Rattle.record.specs.declared.Dock.{Dock}
 use Rattle.runs.specs.Machines.{ours}
-use Rattle.runs.specs.Worlds.{World, woken, next, afterCalls}
+use Rattle.runs.specs.Worlds.{World, next, afterCalls}
 use Rattle.text.specs.declared.Kind.{Kind}
 use Rattle.text.specs.declared.Kind.the-variants.{Read, Frame, Scan, Map, Malformed}
 use Rattle.text.specs.Lines.{kindOf}
 use Rattle.text.proofs.Lengths.{scan-is}
-use Rattle.agreement.proofs.AnyCalls.{Sound, woken-sound, any-sound}
+use Rattle.agreement.proofs.AnyCalls.{Sound, any-sound}
 use Rattle.agreement.proofs.AfterReads.{after-both}
-use Rattle.session.specs.Sessions.{kindCalls, callsOf, afterLines, printedFor}
+use Rattle.session.specs.Sessions.{kindCalls, callsOf, afterLines}
 use Rattle.session.proofs.Bytes.{bytes-are-bytes}
 
 -- One line.

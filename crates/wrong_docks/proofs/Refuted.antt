@@ -1,6 +1,6 @@
 -- Each wrong dock breaks demand 3 by its run: its premises are met, and the terminal and the scans disagree. So demand 3 is false of every
 -- one of them. Assumes nothing.
-use mathlib.Core.Path.{_≡_, refl, sym, ap, _∙_}
+use mathlib.Core.Path.{_≡_, refl, sym, ap}
 use lib.Count.{ones, onesIn}
 use mathlib.Core.List.{List, [], _∷_, map}
 use Rattle.basics.specs.Lists.{allUpTo, same}
@@ -49,12 +49,12 @@ use Rattle.basics.specs.Choice.{both, between}
 use Rattle.basics.proofs.Flags.{left-of-both, right-of-both}
 use Rattle.keys.specs.Keys.{lastKey}
 use Rattle.runs.specs.Calls.{Call}
-use Rattle.runs.specs.Demand.{endOf, Premises, ThirdDemand}
+use Rattle.runs.specs.Demand.{endOf, ThirdDemand}
 use Rattle.runs.specs.Machines.{Machine, nothingWaits}
 use Rattle.runs.specs.Runs.{beginning}
 use Rattle.runs.specs.Stories.{host, nothing, showing, showingToo}
 use Rattle.runs.specs.Told.{twelve}
-use Rattle.runs.specs.Worlds.{World, scansSay}
+use Rattle.runs.specs.Worlds.{scansSay}
 use Rattle.terminal.specs.Terminals.{isDown}
 use Rattle.wrong_docks.specs.Breaking.{Wrong, differ, breaks}
 use Rattle.wrong_docks.specs.Docks.{keepsHeldKeys, forgetsHeldKeys, dropsReleases, keepsOldMap, keepsHistory, keepsRepeating}

@@ -1,6 +1,5 @@
 -- Each wrong dock, with a run that breaks demand 3 and the key that it is about. On a plain panel the 2, key 3, is row 2 of column 0, and
 -- the 5, key 6, row 5. Assumes nothing.
-use Prim.Native.Nat.{ℕ}
 use mathlib.Core.List.{List, [], _∷_, _++_}
 use lib.ListN.{set}
 use Rattle.frames.specs.Frames.{packedOf}
