@@ -7,6 +7,7 @@ use Prim.Native.Nat.{ℕ, zero, suc, _≤_}
 use lib.ListN.{replicate}
 use Rattle.basics.specs.Choice.{both, either}
 use Rattle.keys.specs.Keys.{lastKey}
+use Rattle.keys.specs.Named.{pauseKey}
 use Rattle.dock.specs.Scan.{quiet}
 use Rattle.runs.specs.Calls.{Call, Read, isClearingCall}
 use Rattle.runs.specs.Machines.{ours}
@@ -64,6 +65,6 @@ module _ (earlier calls : List Call) (begins : mayBegin ours (afterCalls ours (w
         nothing = nothing-is-quiet (end .dock) (sound .range) ∙ silent;
       }
 
-  pub third-demand-after-reads : (key : ℕ) → 1 ≤ key → key ≤ lastKey → (key ≡ 101 → ⊥)
+  pub third-demand-after-reads : (key : ℕ) → 1 ≤ key → key ≤ lastKey → (key ≡ pauseKey → ⊥)
       → isDown (endOf ours earlier (calls ++ replicate n Read) .terminal) key ≡ scansSay (endOf ours earlier (calls ++ replicate n Read)) key
   third-demand-after-reads = third-demand earlier (calls ++ replicate n Read) reads-meet-premises

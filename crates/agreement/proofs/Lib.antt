@@ -12,6 +12,7 @@ pub mod Staying
 pub mod Knowing
 pub mod AnyCalls
 pub mod ThirdDemand
+pub mod Holding
 pub mod Bounds
 pub mod Giving
 pub mod Ending

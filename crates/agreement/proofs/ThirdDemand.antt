@@ -23,6 +23,7 @@ use Rattle.agreement.proofs.SaidHeld.{held-is-said, none-held, zeros-by
 use Rattle.agreement.proofs.Taken.{nothing-is-quiet}
 use Rattle.agreement.proofs.AnyCalls.{Sound, woken-sound, begun-sound, any-sound, InStep, any-in-step}
 use Rattle.agreement.proofs.Ending.{quiet-empty, quiet-shut}
+use Rattle.keys.specs.Named.{pauseKey}
 
 one-or-two : (n : ℕ) → between 1 2 n ≡ true → (n ≡ 1) ⊎ (n ≡ 2)
 one-or-two zero e = never false e refl
@@ -54,7 +55,7 @@ begin-in-step w s e =
         chosen = rw (k .3) (one-or-two (o .set) (right-of-both (eqb (o .waiting) 0) set-fine last));
         firm = λ f. omega (arith, k .2);
         told = empty-told (d .mode .set) begun (d .keys) (quiet-empty d silent)
-            (sym (ap (λ (l : List ℕ). terminal 0 (set l 101 0)) flags));
+            (sym (ap (λ (l : List ℕ). terminal 0 (set l pauseKey 0)) flags));
       };
       same = k .3;
     }
@@ -72,7 +73,7 @@ third-demand earlier calls p key low high other =
     let d = end .dock in
     let silent = sym (nothing-is-quiet d (sound .range)) ∙ p .nothing in
     let read = told-empty (d .mode .set) (end .terminal) (d .keys) (quiet-empty d silent) (follows .told) in
-    let flag = ap (λ (t : Terminal). getD (t .down) key 0) read ∙ getD-set-other (d .keys .held) 101 key 0 0 other in
+    let flag = ap (λ (t : Terminal). getD (t .down) key 0) read ∙ getD-set-other (d .keys .held) pauseKey key 0 0 other in
     ap (λ (n : ℕ). not (eqb n 0)) flag
     ∙ held-is-said d (end .onlooker .scans) (sound .settled .ready) (quiet-shut d (end .onlooker .scans) (sound .settled) silent) key low
     ∙ ap (λ (map : List ℕ). saysHeld map (end .onlooker .scans) key) (sound .knows .0)

@@ -4,6 +4,7 @@ use mathlib.Core.Bool.{Bool, true, false, not}
 use mathlib.Core.List.{List, [], _∷_, _++_}
 use lib.Dec.{eqb}
 use Rattle.keys.specs.Keys.{codeIn, altPrint, leftWrap, rightWrap, typematic, makeBreak, typematicMakeBreak}
+use Rattle.keys.specs.Named.{ctrlL, firstCursor, lastCursor, numKey, keypadSlash, printKey, pauseKey}
 use Rattle.codes.specs.declared.Action.{Action}
 use Rattle.codes.specs.declared.Action.the-variants.{Press, Release, Repeat}
 use Rattle.codes.specs.declared.Form.{Form}
@@ -13,16 +14,16 @@ use Rattle.codes.specs.Modifiers.{shifts, shiftHeld, controlHeld, altHel
 
 -- The keys that do not follow the table alone.
 abbrev pub isCursor : ℕ → Bool
-isCursor key = between 59 68 key
+isCursor key = between firstCursor lastCursor key
 
 abbrev pub isKeypadSlash : ℕ → Bool
-isKeypadSlash key = eqb key 70
+isKeypadSlash key = eqb key keypadSlash
 
 abbrev pub isPrint : ℕ → Bool
-isPrint key = eqb key 99
+isPrint key = eqb key printKey
 
 abbrev pub isPause : ℕ → Bool
-isPause key = eqb key 101
+isPause key = eqb key pauseKey
 
 -- What goes before a code's last byte: E0 or nothing. A code is the byte that is sent, with 0xe000 added where E0 goes before it.
 unfoldable pub prefix : ℕ → List ℕ
@@ -108,9 +109,9 @@ pausesAtOnce set key = both (isPause key) (either (eqb set 1) (eqb set 2))
 unfoldable pub pauseBytes : ℕ → Form → List ℕ
 pauseBytes set form =
     pick (isOther form)
-    (makeOf (codeIn set 101) ++ breakOf set (codeIn set 101))
-    (0xe1 ∷ makeOf (codeIn set 54) ++ makeOf (codeIn set 69)
-    ++ 0xe1 ∷ breakOf set (codeIn set 54) ++ breakOf set (codeIn set 69))
+    (makeOf (codeIn set pauseKey) ++ breakOf set (codeIn set pauseKey))
+    (0xe1 ∷ makeOf (codeIn set ctrlL) ++ makeOf (codeIn set numKey)
+    ++ 0xe1 ∷ breakOf set (codeIn set ctrlL) ++ breakOf set (codeIn set numKey))
 
 -- A release is sent in sets 1 and 2, and in set 3 by the two types with Break in their name.
 unfoldable pub sendsRelease : ℕ → ℕ → Bool

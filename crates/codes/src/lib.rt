@@ -4,17 +4,6 @@ pub mod bytes; // bytes.rt: bytes put one after another
 pub mod rows; // rows.rt: what a key's row and its type say
 pub mod plain; // plain.rt: the bytes of an action of a key with one form
 
-// The keys that do not follow the table alone: the ten cursor keys, and three more.
-pub const FIRST_CURSOR: u8 = 59;
-
-pub const LAST_CURSOR: u8 = 68;
-
-pub const KEYPAD_SLASH: u8 = 70;
-
-pub const PRINT: u8 = 99;
-
-pub const PAUSE: u8 = 101;
-
 // What a key does: an event of the rules. Here it is an action, since the reader's Event is what bytes tell. And a key's type is
 // called kind, since `type` is a reserved word.
 pub enum Action {

@@ -1,5 +1,5 @@
 // What a key's row and its type say: its code, whether a release is sent, and whether it repeats.
-use crate::PAUSE;
+use keys::PAUSE;
 use keys::Table;
 ghost use mathlib.Core.Path.{_≡_};
 ghost use Rattle.keys.specs.Keys.{laidOut, codeIn};

@@ -1,10 +1,10 @@
 // Which form a key takes, by the modifiers and Num Lock at that moment (docs/RULES.md, section 3).
-use codes::FIRST_CURSOR;
 use codes::Form;
-use codes::KEYPAD_SLASH;
-use codes::LAST_CURSOR;
-use codes::PAUSE;
-use codes::PRINT;
+use keys::FIRST_CURSOR;
+use keys::KEYPAD_SLASH;
+use keys::LAST_CURSOR;
+use keys::PAUSE;
+use keys::PRINT;
 ghost use mathlib.Core.Path.{_≡_};
 ghost use Rattle.codes.specs.Codes.{shiftForm, cursorForm, printForm, pauseForm, formOf, hasForms};
 

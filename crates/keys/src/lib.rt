@@ -20,6 +20,30 @@ pub struct Row(pub u16, pub u16, pub u16, pub u16);
 // Keys are numbered from 1 to this.
 pub const LAST_KEY: u8 = 104;
 
+// The keys that the rules call by name: the six modifier keys, the ten cursor keys, which stand from INS to RIGHT, and the three others
+// that have forms.
+pub const SHIFT_L: u8 = 42;
+
+pub const SHIFT_R: u8 = 53;
+
+pub const CTRL_L: u8 = 54;
+
+pub const ALT_L: u8 = 55;
+
+pub const ALT_R: u8 = 57;
+
+pub const CTRL_R: u8 = 58;
+
+pub const FIRST_CURSOR: u8 = 59;
+
+pub const LAST_CURSOR: u8 = 68;
+
+pub const KEYPAD_SLASH: u8 = 70;
+
+pub const PRINT: u8 = 99;
+
+pub const PAUSE: u8 = 101;
+
 // Places for something of each key, by its number: place 0 is no key's.
 pub const PLACES: usize = LAST_KEY as usize + 1;
 

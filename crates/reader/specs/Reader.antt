@@ -6,6 +6,7 @@ use lib.Dec.{eqb, ltb, leb}
 use Rattle.basics.specs.Choice.{pick, either, between}
 use Rattle.basics.specs.Said.{Said, accepted, refused}
 use Rattle.keys.specs.Keys.{codeIn, altPrint, leftWrap, rightWrap, markOf}
+use Rattle.keys.specs.Named.{printKey, pauseKey}
 use Rattle.lookup.specs.Lookup.{keyWith}
 use Rattle.reader.specs.declared.Event.{Event}
 use Rattle.reader.specs.declared.Event.the-variants.{More, Pressed, Released, PauseStruck, Wrapping, Overrun, Unknown, BadState, BadSet}
@@ -36,8 +37,8 @@ isWrap set code = either (eqb code (leftWrap set)) (eqb code (rightWrap set))
 unfoldable pub heard : ℕ → Bool → ℕ → Event
 heard set down code =
     pick (isWrap set code) Wrapping
-    (pick (eqb code (codeIn set 101)) (ctrlPause down)
-    (keyMoves down (pick (eqb code (altPrint set)) 99 (keyWith set code))))
+    (pick (eqb code (codeIn set pauseKey)) (ctrlPause down)
+    (keyMoves down (pick (eqb code (altPrint set)) printKey (keyWith set code))))
 
 -- The one byte that is wanted, and what it leads to; any other is unknown.
 abbrev pub expect : ℕ → ℕ → Answer → Answer

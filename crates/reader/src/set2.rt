@@ -18,7 +18,7 @@ fn plain(down: bool, byte: u8) -> Event
     ensures { λ r. ⌜ r ≡ heard 2 down byte ⌝ }
 {
     match byte {
-        0x84 => key_moves(down, 99), // PRINT with ALT
+        0x84 => key_moves(down, keys::PRINT), // with ALT
         _ => key_moves(down, in_set2(byte)),
     }
 }

@@ -6,6 +6,7 @@ use lib.Dec.{eqb}
 use lib.ListN.{getD}
 use Rattle.basics.specs.Choice.{pick}
 use Rattle.keys.specs.Keys.{lastKey}
+use Rattle.keys.specs.Named.{shiftL, shiftR, ctrlL, ctrlR, altL, altR}
 use Rattle.record.specs.declared.Keys.{Keys}
 
 -- A key is held.
@@ -16,11 +17,11 @@ isHeld k key = not (eqb (getD (k .held) key 0) 0)
 abbrev pub flagOf : ℕ → ℕ
 flagOf flag = pick (eqb flag 0) 0 1
 
--- The modifier keys among the held ones, as the encoder takes them: SHIFT 42 and 53, CTRL 54 and 58, ALT 55 and 57, left and right.
+-- The modifier keys among the held ones, as the encoder takes them.
 unfoldable pub modifiersOf : List ℕ → ℕ
 modifiersOf held =
-    flagOf (getD held 42 0) + 2 * flagOf (getD held 53 0) + 4 * flagOf (getD held 54 0)
-    + 8 * flagOf (getD held 58 0) + 16 * flagOf (getD held 55 0) + 32 * flagOf (getD held 57 0)
+    flagOf (getD held shiftL 0) + 2 * flagOf (getD held shiftR 0) + 4 * flagOf (getD held ctrlL 0)
+    + 8 * flagOf (getD held ctrlR 0) + 16 * flagOf (getD held altL 0) + 32 * flagOf (getD held altR 0)
 
 -- How many of the keys 1 to n are held,
 unfoldable pub heldTo : ℕ → List ℕ → ℕ

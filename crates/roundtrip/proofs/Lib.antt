@@ -1,2 +1,3 @@
 pub mod ReadBack
 pub mod OnlyItsOwn
+pub mod Wrapped

@@ -4,6 +4,7 @@ use mathlib.Core.List.{List}
 use mathlib.Core.Logic.{_⊎_}
 use Prim.Native.Nat.{ℕ, _≤_}
 use Rattle.keys.specs.Keys.{lastKey}
+use Rattle.keys.specs.Named.{pauseKey}
 use Rattle.codes.specs.declared.Form.the-variants.{Plain, Other}
 use Rattle.codes.specs.Codes.{makeOf, breakOf, codeOf, pauseBytes}
 
@@ -24,4 +25,4 @@ pub record ComesUp (set key : ℕ) (bytes : List ℕ) : Type 0 where
 -- it is a key like any other.
 pub record StrikesPause (set : ℕ) (bytes : List ℕ) : Type 0 where
   pub apart : set ≡ 3 → ⊥
-  pub code : (bytes ≡ pauseBytes set Plain) ⊎ (bytes ≡ makeOf (codeOf set 101 Plain))
+  pub code : (bytes ≡ pauseBytes set Plain) ⊎ (bytes ≡ makeOf (codeOf set pauseKey Plain))

@@ -7,6 +7,7 @@ use mathlib.Core.Path.{_≡_}
 use mathlib.Core.Bool.{true}
 use mathlib.Core.List.{List}
 use Rattle.keys.specs.Keys.{lastKey}
+use Rattle.keys.specs.Named.{pauseKey}
 use Rattle.terminal.specs.Terminals.{isDown}
 use Rattle.runs.specs.Calls.{Call}
 use Rattle.runs.specs.Machines.{Machine, nothingWaits}
@@ -24,5 +25,5 @@ pub record Premises (m : Machine) (earlier calls : List Call) : Type 0 where
 
 abbrev pub ThirdDemand : Machine → Type 0
 ThirdDemand m =
-    (earlier calls : List Call) → Premises m earlier calls → (key : ℕ) → 1 ≤ key → key ≤ lastKey → (key ≡ 101 → ⊥)
+    (earlier calls : List Call) → Premises m earlier calls → (key : ℕ) → 1 ≤ key → key ≤ lastKey → (key ≡ pauseKey → ⊥)
     → isDown (endOf m earlier calls .terminal) key ≡ scansSay (endOf m earlier calls) key

@@ -13,6 +13,7 @@ use Rattle.runs.specs.Calls.{Call, Scan, Frame, Read}
 use Rattle.runs.specs.Machines.{ours, nothingWaits}
 use Rattle.runs.specs.Worlds.{woken, afterCalls}
 use Rattle.runs.specs.Runs.{mayBegin, beginning, undisturbed}
+use Rattle.keys.specs.Named.{pauseKey}
 
 -- What the calls of a story come to: may the terminal begin, is it left undisturbed, does nothing wait in the end, which keys does it
 -- find down, and which do the scans say are held. And the key bytes that were given.
@@ -56,7 +57,7 @@ agreeing bytes keys = record { begins = true; undisturbed = true; quiet = true; 
 
 -- The same but for PAUSE, which is held and is never down.
 abbrev pub pauseApart : List ℕ → Outcome
-pauseApart bytes = record { begins = true; undisturbed = true; quiet = true; down = []; said = 101 ∷ []; bytes = bytes }
+pauseApart bytes = record { begins = true; undisturbed = true; quiet = true; down = []; said = pauseKey ∷ []; bytes = bytes }
 
 -- Calls up to a start, calls after it, and what they come to.
 pub record Story : Type 0 where

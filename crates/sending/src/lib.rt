@@ -36,13 +36,26 @@ fn pair(low: u8, high: u8) -> u8
     flag(low) + 2 * flag(high)
 }
 
+// The flags of the modifier keys.
+const SHIFT_L: usize = keys::SHIFT_L as usize;
+
+const SHIFT_R: usize = keys::SHIFT_R as usize;
+
+const CTRL_L: usize = keys::CTRL_L as usize;
+
+const CTRL_R: usize = keys::CTRL_R as usize;
+
+const ALT_L: usize = keys::ALT_L as usize;
+
+const ALT_R: usize = keys::ALT_R as usize;
+
 // The modifier keys among the held ones: SHIFT, CTRL and ALT, the left one the lower bit of each pair.
 fn modifiers_of(held: &Held) -> u8
     ensures { λ r. ⌜ r ≡ modifiersOf (now (held .entry)) ⌝ }
 {
-    let shift = pair(held[42], held[53]);
-    let ctrl = pair(held[54], held[58]);
-    let alt = pair(held[55], held[57]);
+    let shift = pair(held[SHIFT_L], held[SHIFT_R]);
+    let ctrl = pair(held[CTRL_L], held[CTRL_R]);
+    let alt = pair(held[ALT_L], held[ALT_R]);
     shift + 4 * ctrl + 16 * alt
 }
 
@@ -112,7 +125,7 @@ fn is_silent(set: u8, key: u8, kind: u8) -> bool
             return true;
         }
     } else {
-        if key == codes::PAUSE {
+        if key == keys::PAUSE {
             return true;
         }
     }

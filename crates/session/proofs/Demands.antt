@@ -3,6 +3,7 @@ use mathlib.Core.Path.{_≡_, refl, ap, _∙_}
 use mathlib.Core.List.{List, [], _∷_, _++_}
 use Prim.Native.Nat.{ℕ, _≤_}
 use Rattle.keys.specs.Keys.{lastKey}
+use Rattle.keys.specs.Named.{pauseKey}
 use Rattle.lines.specs.declared.Printed.{Printed}
 use Rattle.lines.specs.Steps.{stepOf}
 use Rattle.record.specs.declared.Dock.{Dock}
@@ -49,6 +50,6 @@ bench-prints earlier line =
 
 -- and the terminal that reads along agrees with the panel.
 pub bench-third-demand : (earlier lines : List (List ℕ)) → Premises ours (callsOf earlier) (callsOf lines)
-    → (key : ℕ) → 1 ≤ key → key ≤ lastKey → (key ≡ 101 → ⊥)
+    → (key : ℕ) → 1 ≤ key → key ≤ lastKey → (key ≡ pauseKey → ⊥)
     → isDown (endOf ours (callsOf earlier) (callsOf lines) .terminal) key ≡ scansSay (endOf ours (callsOf earlier) (callsOf lines)) key
 bench-third-demand earlier lines = third-demand (callsOf earlier) (callsOf lines)

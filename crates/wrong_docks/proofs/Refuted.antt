@@ -48,6 +48,7 @@ use lib.ListN.{length, getD}
 use Rattle.basics.specs.Choice.{both, between}
 use Rattle.basics.proofs.Flags.{left-of-both, right-of-both}
 use Rattle.keys.specs.Keys.{lastKey}
+use Rattle.keys.specs.Named.{pauseKey}
 use Rattle.runs.specs.Calls.{Call}
 use Rattle.runs.specs.Demand.{endOf, ThirdDemand}
 use Rattle.runs.specs.Machines.{Machine, nothingWaits}
@@ -57,12 +58,11 @@ use Rattle.runs.specs.Told.{twelve}
 use Rattle.runs.specs.Worlds.{scansSay}
 use Rattle.terminal.specs.Terminals.{isDown}
 use Rattle.wrong_docks.specs.Breaking.{Wrong, differ, breaks}
-use Rattle.wrong_docks.specs.Docks.{keepsHeldKeys, forgetsHeldKeys, dropsReleases, keepsOldMap, keepsHistory, keepsRepeating}
-use Rattle.wrong_docks.specs.Docks.{deafAfterSwap, deafAfterIdentify, defaultKeepsTheSet}
-use Rattle.wrong_docks.specs.Docks.{countsWhileCommandWaits, countsWhileScanningOff, countsDuringHandover, countsPhantoms, countsTwice}
-use Rattle.wrong_docks.specs.Docks.{handlesFirstScanOnly, deafWhileReplyWaits, queueOf15}
-use Rattle.wrong_docks.specs.Docks.{sendsNothing, readsNothing, oneConstantByte, oneWrongByte}
-use Rattle.wrong_docks.specs.Listed.{twoPressed, wrongDocks}
+use Rattle.wrong_docks.specs.AtScans.{countsWhileCommandWaits, countsWhileScanningOff, countsDuringHandover, countsPhantoms, countsTwice, phantomNextDoor, twoOpenAreEnough, takesShortScans, phantomBreaksRow, passedOverBreaksRow, handlesFirstScanOnly, deafWhileReplyWaits, deafWhileFull, queueOf15, sendsNothing, repeatGoesOnAfterRelease, repeatsOverrun}
+use Rattle.wrong_docks.specs.AtSwaps.{keepsHeldKeys, forgetsHeldKeys, dropsReleases, swapOverruns, handsWhenEmpty, deafAfterSwap, keepsOldMap, keepsHistory, keepsRepeating, swapClearsQueue, secondSwapIgnored, secondSwapEndsHandover, takesDoubles}
+use Rattle.wrong_docks.specs.AtFrames.{deafAfterIdentify, defaultKeepsTheSet, defaultForgetsHistory, enableForgetsHistory, disableKeepsScanning, indicatorsClear, setNotChosen, wrongValueEndsWait, resendEndsWait, brokenEndsWait, efLeavesWait, resetLosesMap, resetKeepsScanningOff, resetKeepsHistory, framesLeaveHandover, anyParity}
+use Rattle.wrong_docks.specs.AtReads.{readsNothing, oneConstantByte, oneWrongByte}
+use Rattle.wrong_docks.specs.Listed.{twoPressed, swappedPlaces, fifteen, wrongDocks}
 
 -- Answers that differ are not the same.
 apart : (x y : Bool) → differ x y ≡ true → x ≡ y → ⊥
@@ -81,7 +81,7 @@ refutes m earlier calls key e demand =
     let calm = undisturbed m (beginning before) calls in
     let nothing = nothingWaits m (end .dock) in
     let is-key = between 1 lastKey key in
-    let other = not (eqb key 101) in
+    let other = not (eqb key pauseKey) in
     let apart-here = differ (isDown (end .terminal) key) (scansSay end key) in
     let behind1 = right-of-both begins (both calm (both nothing (both is-key (both other apart-here)))) e in
     let behind2 = right-of-both calm (both nothing (both is-key (both other apart-here))) behind1 in
@@ -98,7 +98,7 @@ refutes m earlier calls key e demand =
     key
     (leb-true 1 key (left-of-both (leb 1 key) (leb key lastKey) within))
     (leb-true key lastKey (right-of-both (leb 1 key) (leb key lastKey) within))
-    (eqb-false key 101 (not-true (eqb key 101) (left-of-both other apart-here behind4))))
+    (eqb-false key pauseKey (not-true (eqb key pauseKey) (left-of-both other apart-here behind4))))
 
 -- Whether the run of a wrong dock breaks it.
 abbrev breaksOwn : Wrong → Bool
@@ -146,10 +146,17 @@ unfolding
     woken next afterCalls noneHeldFrom mayBegin turningBytes
     overruns undisturbed endOf host nothing showing showingToo twelve
     saysHeldFrom saysHeld
-    breaks twoPressed wrongDocks
-    keepsHeldKeys forgetsHeldKeys dropsReleases keepsOldMap keepsHistory keepsRepeating deafAfterSwap deafAfterIdentify
-    defaultKeepsTheSet countsWhileCommandWaits countsWhileScanningOff countsDuringHandover countsPhantoms countsTwice
-    handlesFirstScanOnly deafWhileReplyWaits queueOf15 sendsNothing readsNothing oneConstantByte oneWrongByte
+    breaks twoPressed swappedPlaces fifteen wrongDocks
+    countsWhileCommandWaits countsWhileScanningOff countsDuringHandover countsPhantoms countsTwice
+    phantomNextDoor twoOpenAreEnough takesShortScans phantomBreaksRow passedOverBreaksRow
+    handlesFirstScanOnly deafWhileReplyWaits deafWhileFull queueOf15 sendsNothing
+    repeatGoesOnAfterRelease repeatsOverrun keepsHeldKeys forgetsHeldKeys dropsReleases
+    swapOverruns handsWhenEmpty deafAfterSwap keepsOldMap keepsHistory
+    keepsRepeating swapClearsQueue secondSwapIgnored secondSwapEndsHandover takesDoubles
+    deafAfterIdentify defaultKeepsTheSet defaultForgetsHistory enableForgetsHistory disableKeepsScanning
+    indicatorsClear setNotChosen wrongValueEndsWait resendEndsWait brokenEndsWait
+    efLeavesWait resetLosesMap resetKeepsScanningOff resetKeepsHistory framesLeaveHandover
+    anyParity readsNothing oneConstantByte oneWrongByte
 all-break = refl
 
 -- Demand 3 is false of each.

@@ -5,6 +5,7 @@ use mathlib.Core.List.{List}
 use lib.Dec.{eqb}
 use Rattle.basics.specs.Choice.{both, between}
 use Rattle.keys.specs.Keys.{lastKey}
+use Rattle.keys.specs.Named.{pauseKey}
 use Rattle.runs.specs.Calls.{Call}
 use Rattle.runs.specs.Machines.{Machine, nothingWaits}
 use Rattle.runs.specs.Worlds.{woken, afterCalls, scansSay}
@@ -26,7 +27,7 @@ breaks m earlier calls key =
     (both (undisturbed m (beginning before) calls)
     (both (nothingWaits m (end .dock))
     (both (between 1 lastKey key)
-    (both (not (eqb key 101))
+    (both (not (eqb key pauseKey))
     (differ (isDown (end .terminal) key) (scansSay end key))))))
 
 -- A dock, the run that breaks the demand, and the key about which they differ.

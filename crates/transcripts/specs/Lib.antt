@@ -1,0 +1,4 @@
+pub mod Transcripts
+pub mod Typed
+pub mod Repeated
+pub mod Asked
