@@ -1,3 +1,2 @@
 pub mod Typed
-pub mod Repeated
 pub mod Asked

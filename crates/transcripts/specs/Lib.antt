@@ -1,4 +1,3 @@
 pub mod Transcripts
 pub mod Typed
-pub mod Repeated
 pub mod Asked

@@ -1,9 +1,6 @@
 -- What the terminal is sent: forms, marks and types, in transcripts from power-on (docs/RULES.md, sections 3, 5, 7 and 11). On a plain
 -- panel SHIFT_L is row 1 of column 5, UP row 0 of column 8, and PAUSE row 4 of column 12. Assumes nothing.
 use mathlib.Core.List.{List, [], _∷_, _++_}
-use Rattle.frames.specs.Frames.{packedOf}
-use Rattle.record.specs.Power.{plainMap}
-use Rattle.runs.specs.Calls.{Call, Swap, Frame}
 use Rattle.runs.specs.Stories.{reads, host, scans, nothing, showing, showingToo}
 use Rattle.runs.specs.Told.{twelve}
 use Rattle.transcripts.specs.Transcripts.{Transcript, transcript}

@@ -1,5 +1,8 @@
 -- Docks that are wrong at a frame from the host (docs/RULES.md, sections 2 and 11). Assumes nothing.
 use Prim.Native.Nat.{ℕ, _/_, _%_}
+use mathlib.Core.Bool.{true, false}
+use mathlib.Core.List.{[]}
+use lib.Dec.{eqb, leb}
 use Rattle.basics.specs.Choice.{pick, both}
 use Rattle.contacts.specs.Counts.{contacts, unseen}
 use Rattle.dock.specs.Frame.{frameOf}
@@ -10,10 +13,6 @@ use Rattle.record.specs.Power.{plainMap}
 use Rattle.record.specs.declared.Dock.{Dock}
 use Rattle.runs.specs.Machines.{Machine}
 use Rattle.wrong_docks.specs.Docks.{framingBy}
-use lib.Dec.{eqb}
-use lib.Dec.{leb}
-use mathlib.Core.Bool.{true, false}
-use mathlib.Core.List.{[]}
 
 -- One byte of the host is obeyed otherwise: f is told the dock before and after.
 abbrev pub atByte : ℕ → (Dock → Dock → Dock) → Machine
@@ -21,15 +20,15 @@ atByte byte f = framingBy (λ (d : Dock) (number : ℕ). let e = frameOf d numbe
 
 -- Deaf after F2: it waits for a value, as ED does.
 unfoldable pub deafAfterIdentify : Machine
-deafAfterIdentify =
-    framingBy (λ (d : Dock) (number : ℕ). let e = frameOf d number .dock in pick (eqb number (packedOf 0xf2)) (withWaiting e 0xed) e)
+deafAfterIdentify = atByte 0xf2 (λ d e. withWaiting e 0xed)
+
+-- A dock with the set of another.
+abbrev pub withSetOf : Dock → Dock → Dock
+withSetOf d e = withMode e (record { set = d .mode .set; rate = e .mode .rate; indicators = e .mode .indicators })
 
 -- F6 keeps the set,
 unfoldable pub defaultKeepsTheSet : Machine
-defaultKeepsTheSet =
-    framingBy (λ (d : Dock) (number : ℕ).
-    let e = frameOf d number .dock in
-    pick (eqb number (packedOf 0xf6)) (withMode e (record { set = d .mode .set; rate = e .mode .rate; indicators = e .mode .indicators })) e)
+defaultKeepsTheSet = atByte 0xf6 withSetOf
 
 -- or drops the contact history;
 unfoldable pub defaultForgetsHistory : Machine
@@ -49,7 +48,7 @@ indicatorsClear = atByte 0xed (λ d e. withKeys e (withQueue (e .keys) (queueOf 
 
 -- The value of F0 chooses no set.
 unfoldable pub setNotChosen : Machine
-setNotChosen = framingBy (λ (d : Dock) (number : ℕ). let e = frameOf d number .dock in pick (eqb (d .waiting) 0xf0) (withMode e (record { set = d .mode .set; rate = e .mode .rate; indicators = e .mode .indicators })) e)
+setNotChosen = framingBy (λ (d : Dock) (number : ℕ). let e = frameOf d number .dock in pick (eqb (d .waiting) 0xf0) (withSetOf d e) e)
 
 -- A wrong value ends the wait for the right one,
 unfoldable pub wrongValueEndsWait : Machine

@@ -1,5 +1,6 @@
 -- Docks that are wrong at a read, or in their table (docs/RULES.md, sections 1 and 7). Assumes nothing.
 use Prim.Native.Nat.{ℕ}
+use lib.Dec.{eqb}
 use Rattle.basics.specs.Choice.{pick}
 use Rattle.dock.specs.Answers.{taken}
 use Rattle.dock.specs.Read.{readOf}
@@ -8,7 +9,6 @@ use Rattle.dock.specs.declared.Given.{Given}
 use Rattle.record.specs.declared.Dock.{Dock}
 use Rattle.runs.specs.Machines.{Machine}
 use Rattle.wrong_docks.specs.Docks.{readingBy}
-use lib.Dec.{eqb}
 
 -- Reads are always empty.
 unfoldable pub readsNothing : Machine

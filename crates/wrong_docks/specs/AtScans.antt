@@ -1,5 +1,9 @@
 -- Docks that are wrong at a scan (docs/RULES.md, sections 5 to 7). Assumes nothing.
 use Prim.Native.Nat.{ℕ, _+_}
+use mathlib.Core.Bool.{Bool, true, false, not}
+use mathlib.Core.List.{List, [], _∷_, _++_}
+use lib.Dec.{eqb}
+use lib.ListN.{getD, length, replicate}
 use Rattle.basics.specs.Choice.{pick, both, either}
 use Rattle.basics.specs.Lists.{allUpTo}
 use Rattle.codes.specs.declared.Action.the-variants.{Repeat}
@@ -13,11 +17,6 @@ use Rattle.record.specs.declared.Dock.{Dock}
 use Rattle.runs.specs.Machines.{Machine}
 use Rattle.sending.specs.Sending.{sends, queuedOf}
 use Rattle.wrong_docks.specs.Docks.{scanningBy}
-use lib.Dec.{eqb}
-use lib.ListN.{getD}
-use lib.ListN.{length, replicate}
-use mathlib.Core.Bool.{Bool, true, false, not}
-use mathlib.Core.List.{List, [], _∷_, _++_}
 
 -- Scans are counted while a command waits for its value,
 unfoldable pub countsWhileCommandWaits : Machine

@@ -1,5 +1,9 @@
 -- Docks that are wrong at a swap, or while one is unfinished (docs/RULES.md, section 8). Assumes nothing.
 use Prim.Native.Nat.{ℕ}
+use mathlib.Core.Bool.{Bool, true, false, not}
+use mathlib.Core.List.{List, []}
+use lib.Dec.{eqb}
+use lib.ListN.{length, replicate}
 use Rattle.basics.specs.Choice.{pick, both, either}
 use Rattle.basics.specs.Lists.{allUpTo}
 use Rattle.contacts.specs.Counts.{contacts}
@@ -8,8 +12,7 @@ use Rattle.dock.specs.Closing.{closing}
 use Rattle.dock.specs.Frame.{frameOf}
 use Rattle.dock.specs.Read.{readOf}
 use Rattle.dock.specs.Scan.{repeating, scanOf}
-use Rattle.dock.specs.Swap.{swapOf}
-use Rattle.dock.specs.Swap.{swapped}
+use Rattle.dock.specs.Swap.{swapOf, swapped}
 use Rattle.keys.specs.Keys.{lastKey}
 use Rattle.maps.specs.Maps.{hasDouble}
 use Rattle.queue.specs.Queues.{waiting, queueOf, lastReplaced}
@@ -18,10 +21,6 @@ use Rattle.record.specs.Power.{powerOn}
 use Rattle.record.specs.declared.Dock.{Dock}
 use Rattle.runs.specs.Machines.{Machine}
 use Rattle.wrong_docks.specs.Docks.{swappingBy}
-use lib.Dec.{eqb}
-use lib.ListN.{length, replicate}
-use mathlib.Core.Bool.{Bool, true, false, not}
-use mathlib.Core.List.{List, []}
 
 -- The contact history is cleared and the list of held keys is not: the limestone.
 unfoldable pub keepsHeldKeys : Machine

@@ -3,10 +3,9 @@ use Prim.Native.Nat.{ℕ}
 use mathlib.Core.List.{List}
 use Rattle.dock.specs.declared.Taken.{Taken}
 use Rattle.dock.specs.Scan.{scanOf}
-use Rattle.dock.specs.Swap.{swapOf}
+use Rattle.dock.specs.Swap.{swapOf, swapped}
 use Rattle.dock.specs.Frame.{frameOf}
 use Rattle.dock.specs.Read.{readOf}
-use Rattle.dock.specs.Swap.{swapped}
 use Rattle.record.specs.declared.Dock.{Dock}
 use Rattle.record.specs.Power.{powerOn}
 use Rattle.runs.specs.Machines.{Machine}

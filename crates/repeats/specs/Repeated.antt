@@ -5,8 +5,7 @@ use Rattle.frames.specs.Frames.{packedOf}
 use Rattle.record.specs.Power.{plainMap}
 use Rattle.runs.specs.Calls.{Call, Swap, Frame}
 use Rattle.runs.specs.Stories.{reads, host, scans, nothing, showing, showingToo}
-use Rattle.runs.specs.Told.{twelve}
 use Rattle.transcripts.specs.Transcripts.{Transcript, transcript}
 
 -- The quickest rate is chosen, F3 00: a repeat after 60 scans, and then every 8.
 unfoldable pub quickest : List Call

@@ -1,4 +1,4 @@
--- So do repeats. Assumes nothing.
+-- Repeats come out as they are written. The lists name every unfoldable definition that is computed through. Assumes nothing.
 use mathlib.Core.Path.{_≡_, refl}
 use lib.Count.{ones, onesIn}
 use mathlib.Core.Bool.{true}
@@ -30,9 +30,9 @@ use Rattle.dock.specs.Read.{remembering, replyTaken, keyByteTaken, read, readOf
 use Rattle.runs.specs.Stories.{host, nothing, showing, showingToo}
 use Rattle.runs.specs.Told.{twelve}
 use Rattle.runs.specs.Bytes.{keyBytesOf}
 use Rattle.transcripts.specs.Transcripts.{reached, gives, comeOut}
-use Rattle.transcripts.specs.Repeated.{quickest, due, notBefore, repeatLost, repeatAfterLost, repeatTime, repeatInPhantom, noneTakesOver, pauseEndsRepeat, repeatUnwrapped}
-use Rattle.transcripts.specs.Repeated.{slowAgain, paced, enableEndsRepeat, swapKeepsModes, setRestoresRate, defaultRestoresRate, resetRestoresRate, rateOfNextInterval, repeatInSet3}
+use Rattle.repeats.specs.Repeated.{quickest, due, notBefore, repeatLost, repeatAfterLost, repeatTime, repeatInPhantom, noneTakesOver, pauseEndsRepeat, repeatUnwrapped}
+use Rattle.repeats.specs.Repeated.{slowAgain, paced, enableEndsRepeat, swapKeepsModes, setRestoresRate, defaultRestoresRate, resetRestoresRate, rateOfNextInterval, repeatInSet3}
 
 pub all-due : comeOut keyBytesOf due ≡ true
 unfolding
