@@ -9,7 +9,8 @@ use Rattle.basics.specs.Choice.{both, either}
 use Rattle.keys.specs.Keys.{lastKey}
 use Rattle.keys.specs.Named.{pauseKey}
 use Rattle.dock.specs.Scan.{quiet}
-use Rattle.runs.specs.Calls.{Call, Read, isClearingCall}
+use Rattle.dock.specs.Calls.{Call, Read}
+use Rattle.runs.specs.Clearing.{isClearingCall}
 use Rattle.runs.specs.Machines.{ours}
 use Rattle.runs.specs.Worlds.{World, woken, next, afterCalls, scansSay}
 use Rattle.runs.specs.Runs.{mayBegin, beginning, overrunsIn, undisturbed}

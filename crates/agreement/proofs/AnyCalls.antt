@@ -24,11 +24,13 @@ use Rattle.queue.specs.Queues.{queueOf}
 use Rattle.record.specs.declared.Dock.{Dock}
 use Rattle.record.specs.declared.Mode.{Mode}
 use Rattle.record.specs.Power.{countUp, plainMap, freshWith, powerOn}
+use Rattle.record.specs.Views.{contactsOf, keysOf}
 use Rattle.range.specs.Range.{inRange}
 use Rattle.range.proofs.PowerOn.{power-on-in-range}
 use Rattle.range.proofs.Ranges.{in-range-keys, in-range-mode}
 use Rattle.keying.proofs.Good.{ticked-good}
-use Rattle.runs.specs.Calls.{Call, Scan, Swap, Frame, Read, asBytes, isClearingCall}
+use Rattle.dock.specs.Calls.{Call, Scan, Swap, Frame, Read, asBytes}
+use Rattle.runs.specs.Clearing.{isClearingCall}
 use Rattle.runs.specs.Onlookers.{onlooker, atPowerOn, isCountedBy, sawScan, isMap, sawSwap}
 use Rattle.runs.specs.Machines.{ours, findsNoRoom, keyLeft}
 use Rattle.runs.specs.Worlds.{World, woken, next, afterCalls}
@@ -80,16 +82,16 @@ pub begun-sound : (w : World) → Sound w → Sound (beginning w)
 begun-sound w s = record { range = s .range; settled = s .settled; knows = s .knows }
 
 -- Where no handover is open and no scan has been counted no key is held, so none is left.
-none-left : (d : Dock) (scans : List (List ℕ)) → IsReady d scans → d .handover ≡ false → scans ≡ [] → keyLeft d ≡ false
+none-left : (d : Dock) (scans : List (List ℕ)) → IsReady d scans → d .rest .handover ≡ false → scans ≡ [] → keyLeft d ≡ false
 unfolding keyLeft findsNoRoom
 none-left d scans r shut none =
-    rw (none-lowest lastKey 1 (d .keys .held) (none-held d scans r shut (rw none (no-scan-says 0 (d .map)))))
+    rw (none-lowest lastKey 1 (d .held) (none-held d scans r shut (rw none (no-scan-says 0 (d .map)))))
 
 -- A handover is open exactly if a key is left and no scan has been counted since the swap.
-still-open : (d : Dock) (scans : List (List ℕ)) → Settled d scans → d .handover ≡ both (eqb (length scans) 0) (keyLeft d)
-still-open d scans s = go (d .handover) refl scans refl
+still-open : (d : Dock) (scans : List (List ℕ)) → Settled d scans → d .rest .handover ≡ both (eqb (length scans) 0) (keyLeft d)
+still-open d scans s = go (d .rest .handover) refl scans refl
   where
-    go : (open′ : Bool) → d .handover ≡ open′ → (l : List (List ℕ)) → scans ≡ l → open′ ≡ both (eqb (length l) 0) (keyLeft d)
+    go : (open′ : Bool) → d .rest .handover ≡ open′ → (l : List (List ℕ)) → scans ≡ l → open′ ≡ both (eqb (length l) 0) (keyLeft d)
     go true e l f = rw (sym f ∙ s .ready .anew e) (sym (s .left e))
     go false e [] f = sym (none-left d scans (s .ready) e f)
     go false e (scan ∷ l) f = rw (ne-eqb (length (scan ∷ l)) 0 (λ z. omega arith))
@@ -118,8 +120,8 @@ same-overrun w s scan =
     let keys = in-range-keys d (s .range) in
     let bytes = asBytes scan in
     alike (eqb (length bytes) 18) (isCounted d bytes) (same-count w s scan)
-    (turns-exactly (d .mode) (d .types) (d .map) (d .contacts .closed) (countedOf (d .contacts) bytes .closed)
-    (in-range-mode d (s .range)) (r .entries) 144 (ticked (d .keys)) (ticked-good (d .keys) keys) (r .places .bytes))
+    (turns-exactly (d .rest .mode) (d .types) (d .map) (d .closed) (countedOf (contactsOf d) bytes .closed)
+    (in-range-mode d (s .range)) (r .entries) 144 (ticked (keysOf d)) (ticked-good (keysOf d) keys) (r .places .bytes))
   where
     alike : (whole counted : Bool) {by-him sent over : Bool} → both whole counted ≡ by-him → sent ≡ over
         → both by-him sent ≡ both whole (both counted over)
@@ -156,14 +158,14 @@ next-sound w (Frame number) s =
 next-sound w Read s =
     record {
       range = read-in-range (w .dock) (s .range);
-      settled = read-settled (w .dock) (w .onlooker .scans) (s .range) (s .settled);
+      settled = read-settled (w .dock) (w .onlooker .scans) (s .settled);
       knows = read-knows (w .dock) (w .onlooker) (s .knows) (s .range);
     }
 
 -- The terminal follows, and reads by the set that the dock sends in.
 pub record InStep (w : World) : Type 0 where
   pub follows : Follows (w .dock) (w .terminal)
-  pub same : w .dock .mode .set ≡ w .set
+  pub same : w .dock .rest .mode .set ≡ w .set
 
 next-in-step : (w : World) (call : Call) → Sound w → either (isClearingCall call) (overrunsIn w call) ≡ false → InStep w → InStep (next ours w call)
 unfolding next
@@ -174,7 +176,7 @@ next-in-step w (Scan scan) s calm f =
     }
 next-in-step w (Swap map) s calm f =
     record {
-      follows = swap-follows (w .dock) (w .terminal) map (f .follows) (s .range);
+      follows = swap-follows (w .dock) (w .terminal) map (f .follows);
       same = ap (λ (m : Mode). m .set) (swap-stays (w .dock) map (s .range) .3) ∙ f .same;
     }
 next-in-step w (Frame number) s calm f =
@@ -185,7 +187,7 @@ next-in-step w (Frame number) s calm f =
     }
 next-in-step w Read s calm f =
     record {
-      follows = rw (← f .same) (read-follows (w .dock) (w .onlooker .scans) (w .terminal) (s .range) (s .settled) (f .follows));
+      follows = rw (← f .same) (read-follows (w .dock) (w .onlooker .scans) (w .terminal) (s .settled) (f .follows));
       same = ap (λ (m : Mode). m .set) (read-stays (w .dock) .3) ∙ f .same;
     }
 

@@ -22,7 +22,8 @@ use Rattle.queue.proofs.Meaning.{waiting-queueOf}
 use Rattle.record.specs.declared.Dock.{Dock}
 use Rattle.record.specs.Power.{freshWith}
 use Rattle.range.specs.Range.{inRange}
-use Rattle.runs.specs.Calls.{Frame, clears, carries, isClearing}
+use Rattle.dock.specs.Calls.{Frame}
+use Rattle.runs.specs.Clearing.{clears, carries, isClearing}
 use Rattle.runs.specs.Bytes.{closingBytes, frameBytes, queuedBy}
 use Rattle.basics.proofs.Cases.{never}
 use Rattle.agreement.proofs.Queuing.{bytesOf, closing-bytes}
@@ -74,7 +75,7 @@ module _ (byte : ℕ) (d : Dock) (c : clears byte ≡ true) where
 
 -- The call.
 pub clearing-drops : (d : Dock) (number : ℕ) → inRange d ≡ true → isClearing number ≡ true
-    → waiting (frameOf d number .dock .keys .queue) ≡ queuedBy d (Frame number)
+    → waiting (frameOf d number .dock .rest .outgoing .queue) ≡ queuedBy d (Frame number)
 unfolding frameOf tookFrame isClearing
 clearing-drops d number range = rw range (go (unpackedOf number))
   where

@@ -13,7 +13,7 @@ use Rattle.dock.specs.Closing.{withHanded, closing}
 use Rattle.keying.specs.Handover.{handedOver}
 use Rattle.queue.specs.declared.Queue.{Queue}
 use Rattle.queue.specs.Queues.{waiting}
-use Rattle.record.specs.declared.Keys.{Keys}
+use Rattle.record.specs.Views.{Keys, keysOf}
 use Rattle.record.specs.declared.Dock.{Dock}
 use Rattle.telling.specs.Agreeing.{NoneOutside, RepeatsHeld}
 use Rattle.telling.proofs.Told.{Told, handed-told}
@@ -27,7 +27,7 @@ pub record Following (codes waits : ℕ) (keys : Keys) (t : Terminal) : Type 0 w
   pub told : Told codes t keys
 
 abbrev pub Follows : Dock → Terminal → Type 0
-Follows d t = Following (d .mode .set) (d .waiting) (d .keys) t
+Follows d t = Following (d .rest .mode .set) (d .rest .waiting) (keysOf d) t
 
 -- A queue of no length holds nothing.
 pub none-wait : (q : Queue) → q .length ≡ 0 → waiting q ≡ []
@@ -49,10 +49,10 @@ repeats-within k out some = go (leb (k .repeating) lastKey) refl
 pub closing-follows : (d : Dock) (t : Terminal) → Follows d t → Follows (closing d) t
 unfolding closing
 closing-follows d t f =
-    picked (λ (e : Dock). Follows e t) (d .handover) (withHanded d (handedOver (d .keys) (d .mode) (d .types))) d
+    picked (λ (e : Dock). Follows e t) (d .rest .handover) (withHanded d (handedOver (keysOf d) (d .rest .mode) (d .types))) d
     (record {
       chosen = f .chosen;
       firm = f .firm;
-      told = handed-told (d .mode) (f .chosen) t (d .types) lastKey 1 (omega arith) (omega arith) (d .keys) (f .told);
+      told = handed-told (d .rest .mode) (f .chosen) t (d .types) lastKey 1 (omega arith) (omega arith) (keysOf d) (f .told);
     })
     f

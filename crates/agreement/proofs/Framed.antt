@@ -20,10 +20,11 @@ use Rattle.host.specs.Values.{tookByte}
 use Rattle.host.proofs.Ladder.{by-value, by-byte}
 use Rattle.queue.proofs.Meaning.{places-queueOf}
 use Rattle.record.specs.declared.Dock.{Dock}
+use Rattle.record.specs.Views.{contactsOf, keysOf}
 use Rattle.record.specs.Parts.{withWaiting}
 use Rattle.record.specs.Power.{freshWith}
 use Rattle.range.specs.Range.{takesValue, inRange}
-use Rattle.runs.specs.Calls.{clears, carries, isClearing}
+use Rattle.runs.specs.Clearing.{clears, carries, isClearing}
 use Rattle.runs.specs.Onlookers.{Onlooker, sawByte, sawFrame}
 use Rattle.telling.proofs.Held.{none-agree, contact-open}
 use Rattle.basics.proofs.Zeros.{zeros-at}
@@ -36,11 +37,11 @@ module _ (scans : List (List ℕ)) where
   -- No key byte waits any more; no key repeats.
   cleared-ready : (d : Dock) → IsReady d scans → IsReady (cleared d) scans
   cleared-ready d r =
-      same-flags (d .map) (d .contacts) (d .keys) (d .handover) scans r (cleared d .keys) refl (places-queueOf [] (omega arith)) (r .repeats)
+      same-flags (d .map) (contactsOf d) (keysOf d) (d .rest .handover) scans r (keysOf (cleared d)) refl (places-queueOf [] (omega arith)) (r .repeats)
 
   unrepeated-ready : (d : Dock) → IsReady d scans → IsReady (unrepeated d) scans
   unrepeated-ready d r =
-      same-flags (d .map) (d .contacts) (d .keys) (d .handover) scans r (unrepeated d .keys) refl (r .places .bytes) (inl refl)
+      same-flags (d .map) (contactsOf d) (keysOf d) (d .rest .handover) scans r (keysOf (unrepeated d)) refl (r .places .bytes) (inl refl)
 
 -- The dock after a reset.
 fresh-ready : (d : Dock) (scans : List (List ℕ)) → IsReady d scans → IsReady (restarted d) []

@@ -6,14 +6,15 @@ use mathlib.Core.List.{List}
 use Prim.Native.Nat.{ℕ, _≤_}
 use Rattle.history.specs.Scans.{saysHeld}
 use Rattle.record.specs.Held.{isHeld}
-use Rattle.runs.specs.Calls.{Call}
+use Rattle.record.specs.Views.{keysOf}
+use Rattle.dock.specs.Calls.{Call}
 use Rattle.runs.specs.Machines.{ours}
 use Rattle.runs.specs.Worlds.{woken, afterCalls, scansSay}
 use Rattle.agreement.proofs.SaidHeld.{held-is-said}
 use Rattle.agreement.proofs.AnyCalls.{woken-sound, any-sound}
 
-pub any-held : (calls : List Call) → afterCalls ours (woken ours) calls .dock .handover ≡ false → (key : ℕ) → 1 ≤ key
-    → isHeld (afterCalls ours (woken ours) calls .dock .keys) key ≡ scansSay (afterCalls ours (woken ours) calls) key
+pub any-held : (calls : List Call) → afterCalls ours (woken ours) calls .dock .rest .handover ≡ false → (key : ℕ) → 1 ≤ key
+    → isHeld (keysOf (afterCalls ours (woken ours) calls .dock)) key ≡ scansSay (afterCalls ours (woken ours) calls) key
 any-held calls shut key low =
     let w = afterCalls ours (woken ours) calls in
     let sound = any-sound calls (woken ours) woken-sound in

@@ -27,9 +27,10 @@ use Rattle.keying.specs.Handover.{handedOver}
 use Rattle.range.specs.Range.{inRange, takesValue}
 use Rattle.record.specs.declared.Dock.{Dock}
 use Rattle.record.specs.declared.Mode.{Mode}
+use Rattle.record.specs.Views.{keysOf}
 use Rattle.record.specs.Parts.{withWaiting}
 use Rattle.record.specs.Power.{freshWith}
-use Rattle.runs.specs.Calls.{clears, carries, isClearing}
+use Rattle.runs.specs.Clearing.{clears, carries, isClearing}
 use Rattle.runs.specs.Onlookers.{Onlooker, onlooker, sawScan, isMap, sawSwap, scanningAfter, waitingAfter, setAfter, sawByte, sawFrame}
 use Rattle.runs.specs.Rules.{oneOf, valuesFor}
 use Rattle.agreement.proofs.Rules.{waits-same, right-same}
@@ -69,34 +70,34 @@ mild-not : {byte : ℕ} → Mild byte → (n : ℕ) → 0xf4 ≤ n → n ≤ 0xf
 mild-not m n low high is = ⊎-elim (λ l. omega arith) (λ l. omega arith) (m .apart)
 
 module _ (d : Dock) (byte : ℕ) where
-  took-scanning : tookByte byte d .scanning ≡ scanningAfter byte (d .scanning)
+  took-scanning : tookByte byte d .rest .scanning ≡ scanningAfter byte (d .rest .scanning)
   unfolding commanded scanningAfter freshWith
   took-scanning =
-      let Turned : Dock → Type 0 = λ (e : Dock). e .scanning ≡ scanningAfter byte (d .scanning) in
-      let low-stays : byte < 0xed → d .scanning ≡ scanningAfter byte (d .scanning) =
-      λ low. unturned byte (d .scanning) (λ e. omega arith) (λ e. omega arith) (λ e. omega arith) in
+      let Turned : Dock → Type 0 = λ (e : Dock). e .rest .scanning ≡ scanningAfter byte (d .rest .scanning) in
+      let low-stays : byte < 0xed → d .rest .scanning ≡ scanningAfter byte (d .rest .scanning) =
+      λ low. unturned byte (d .rest .scanning) (λ e. omega arith) (λ e. omega arith) (λ e. omega arith) in
       by-byte Turned byte d (λ fe. rw fe)
       (λ other high. by-command Turned byte d
       (λ f0. rw f0)
       (λ f4. rw f4)
       (λ f5. rw f5)
       (λ f6. rw f6)
-      (λ low high. unturned byte (d .scanning) (λ e. omega arith) (λ e. omega arith) (λ e. omega arith))
-      (λ low high. unturned byte (d .scanning) (λ e. omega arith) (λ e. omega arith) (λ e. omega arith))
+      (λ low high. unturned byte (d .rest .scanning) (λ e. omega arith) (λ e. omega arith) (λ e. omega arith))
+      (λ low high. unturned byte (d .rest .scanning) (λ e. omega arith) (λ e. omega arith) (λ e. omega arith))
       (λ ff. rw ff)
-      (λ m. unturned byte (d .scanning) (mild-not m 0xf4 (omega arith) (omega arith)) (mild-not m 0xf5 (omega arith) (omega arith)) (m .not-ff)))
+      (λ m. unturned byte (d .rest .scanning) (mild-not m 0xf4 (omega arith) (omega arith)) (mild-not m 0xf5 (omega arith) (omega arith)) (m .not-ff)))
       (λ low right. by-value Turned byte d (λ ed. low-stays low) (λ f0. low-stays low) (λ f3. low-stays low) (low-stays low))
       (λ low wrong. low-stays low)
 
-  took-waiting : tookByte byte d .waiting ≡ waitingAfter byte (d .waiting)
+  took-waiting : tookByte byte d .rest .waiting ≡ waitingAfter byte (d .rest .waiting)
   unfolding tookByte commanded tookValue waitingAfter
-  took-waiting = rw (waits-same byte, right-same (d .waiting) byte) (go (eqb byte 0xfe) (leb 0xed byte) (rightValue (d .waiting) byte))
+  took-waiting = rw (waits-same byte, right-same (d .rest .waiting) byte) (go (eqb byte 0xfe) (leb 0xed byte) (rightValue (d .rest .waiting) byte))
     where
       go : (again command right : Bool)
-          → (pick again (replying (d .given ∷ []) d)
+          → (pick again (replying (d .rest .given ∷ []) d)
           (pick command (commanded byte d)
-          (pick right (replying (0xfa ∷ []) (withWaiting (valued (d .waiting) byte d) 0)) (replying (0xfe ∷ []) d)))) .waiting
-          ≡ pick again (d .waiting) (pick command (pick (takesValue byte) byte 0) (pick right 0 (d .waiting)))
+          (pick right (replying (0xfa ∷ []) (withWaiting (valued (d .rest .waiting) byte d) 0)) (replying (0xfe ∷ []) d)))) .rest .waiting
+          ≡ pick again (d .rest .waiting) (pick command (pick (takesValue byte) byte 0) (pick right 0 (d .rest .waiting)))
       go true command right = refl
       go false true right = refl
       go false false true = refl
@@ -114,7 +115,7 @@ module _ (d : Dock) (byte : ℕ) where
 
   -- A command: F5, F6 and FF choose set 2, and no other chooses one.
   Chosen : Dock → Type 0
-  Chosen e = e .mode .set ≡ pick (oneOf byte (0xf5 ∷ 0xf6 ∷ 0xff ∷ [])) 2 (d .mode .set)
+  Chosen e = e .rest .mode .set ≡ pick (oneOf byte (0xf5 ∷ 0xf6 ∷ 0xff ∷ [])) 2 (d .rest .mode .set)
 
   obeyed-chosen : Chosen (obeyed byte d)
   unfolding oneOf freshWith Chosen
@@ -124,62 +125,62 @@ module _ (d : Dock) (byte : ℕ) where
       (λ f4. rw f4)
       (λ f5. rw f5)
       (λ f6. rw f6)
-      (λ low high. unchosen byte (d .mode .set) (λ e. omega arith) (λ e. omega arith) (λ e. omega arith))
-      (λ low high. unchosen byte (d .mode .set) (λ e. omega arith) (λ e. omega arith) (λ e. omega arith))
+      (λ low high. unchosen byte (d .rest .mode .set) (λ e. omega arith) (λ e. omega arith) (λ e. omega arith))
+      (λ low high. unchosen byte (d .rest .mode .set) (λ e. omega arith) (λ e. omega arith) (λ e. omega arith))
       (λ ff. rw ff)
-      (λ m. unchosen byte (d .mode .set) (mild-not m 0xf5 (omega arith) (omega arith)) (mild-not m 0xf6 (omega arith) (omega arith)) (m .not-ff))
+      (λ m. unchosen byte (d .rest .mode .set) (mild-not m 0xf5 (omega arith) (omega arith)) (mild-not m 0xf6 (omega arith) (omega arith)) (m .not-ff))
 
   -- A value: that of F0 is the set.
-  value-chosen : byte < 0xed → tookValue byte d .mode .set ≡ setAfter byte (d .waiting) (d .mode .set)
+  value-chosen : byte < 0xed → tookValue byte d .rest .mode .set ≡ setAfter byte (d .rest .waiting) (d .rest .mode .set)
   unfolding tookValue valued setAfter
   value-chosen low =
-      rw (low-chosen byte low, right-same 0xf0 byte) (go (eqb (d .waiting) 0xf0) refl)
+      rw (low-chosen byte low, right-same 0xf0 byte) (go (eqb (d .rest .waiting) 0xf0) refl)
     where
       Same : Dock → Type 0
-      Same e = e .mode .set ≡ d .mode .set
+      Same e = e .rest .mode .set ≡ d .rest .mode .set
 
-      go : (choosing : Bool) → eqb (d .waiting) 0xf0 ≡ choosing
-          → tookValue byte d .mode .set ≡ pick (both choosing (rightValue 0xf0 byte)) byte (d .mode .set)
+      go : (choosing : Bool) → eqb (d .rest .waiting) 0xf0 ≡ choosing
+          → tookValue byte d .rest .mode .set ≡ pick (both choosing (rightValue 0xf0 byte)) byte (d .rest .mode .set)
       go true e =
-          rw (eqb-true (d .waiting) 0xf0 e)
-          (two-by-cases (λ (x : Dock) (set : ℕ). x .mode .set ≡ set) (rightValue 0xf0 byte) _ _ _ _ (λ right. refl) (λ wrong. refl))
+          rw (eqb-true (d .rest .waiting) 0xf0 e)
+          (two-by-cases (λ (x : Dock) (set : ℕ). x .rest .mode .set ≡ set) (rightValue 0xf0 byte) _ _ _ _ (λ right. refl) (λ wrong. refl))
       go false e =
-          picked Same (rightValue (d .waiting) byte) _ _
-          (picked Same (eqb (d .waiting) 0xed) _ _ refl (rw e (picked Same (eqb (d .waiting) 0xf3) _ _ refl refl)))
+          picked Same (rightValue (d .rest .waiting) byte) _ _
+          (picked Same (eqb (d .rest .waiting) 0xed) _ _ refl (rw e (picked Same (eqb (d .rest .waiting) 0xf3) _ _ refl refl)))
           refl
 
-  took-chosen : tookByte byte d .mode .set ≡ setAfter byte (d .waiting) (d .mode .set)
+  took-chosen : tookByte byte d .rest .mode .set ≡ setAfter byte (d .rest .waiting) (d .rest .mode .set)
   unfolding tookByte commanded Chosen
   took-chosen =
-      let To : Dock → Type 0 = λ (e : Dock). e .mode .set ≡ setAfter byte (d .waiting) (d .mode .set) in
-      by-cases To (eqb byte 0xfe) (replying (d .given ∷ []) d) _
+      let To : Dock → Type 0 = λ (e : Dock). e .rest .mode .set ≡ setAfter byte (d .rest .waiting) (d .rest .mode .set) in
+      by-cases To (eqb byte 0xfe) (replying (d .rest .given ∷ []) d) _
       (λ h.
       let is = eqb-true byte 0xfe h in
-      unchosen byte (d .mode .set) (λ e. omega arith) (λ e. omega arith) (λ e. omega arith) ∙ sym (high-chosen byte (d .waiting) (d .mode .set) (omega arith)))
+      unchosen byte (d .rest .mode .set) (λ e. omega arith) (λ e. omega arith) (λ e. omega arith) ∙ sym (high-chosen byte (d .rest .waiting) (d .rest .mode .set) (omega arith)))
       (λ h. by-cases To (leb 0xed byte) (commanded byte d) (tookValue byte d)
-      (λ high. obeyed-chosen ∙ sym (high-chosen byte (d .waiting) (d .mode .set) (leb-true 0xed byte high)))
+      (λ high. obeyed-chosen ∙ sym (high-chosen byte (d .rest .waiting) (d .rest .mode .set) (leb-true 0xed byte high)))
       (λ low. value-chosen (leb-false 0xed byte low)))
 
   -- Only F0 and its value choose a set.
-  took-set : Mild byte → (d .waiting ≡ 0xf0 → ⊥) → tookByte byte d .mode .set ≡ d .mode .set
+  took-set : Mild byte → (d .rest .waiting ≡ 0xf0 → ⊥) → tookByte byte d .rest .mode .set ≡ d .rest .mode .set
   unfolding commanded
   took-set m firm =
-      let Same : Dock → Type 0 = λ (e : Dock). e .mode .set ≡ d .mode .set in
-      by-byte Same byte d (λ fe. refl) (λ other high. ap (λ (e : Dock). e .mode .set) (obeyed-mild byte d m))
+      let Same : Dock → Type 0 = λ (e : Dock). e .rest .mode .set ≡ d .rest .mode .set in
+      by-byte Same byte d (λ fe. refl) (λ other high. ap (λ (e : Dock). e .rest .mode .set) (obeyed-mild byte d m))
       (λ low right. by-value Same byte d (λ ed. refl) (λ f0. absurd (firm f0)) (λ f3. refl) refl)
       (λ low wrong. refl)
 
 -- What the onlooker knows is so.
 abbrev pub Knows : Dock → Onlooker → Type 0
-Knows d o = (d .map ≡ o .map) × (d .scanning ≡ o .scanning) × (d .waiting ≡ o .waiting) × (d .mode .set ≡ o .set)
+Knows d o = (d .map ≡ o .map) × (d .rest .scanning ≡ o .scanning) × (d .rest .waiting ≡ o .waiting) × (d .rest .mode .set ≡ o .set)
 
 closing-knows : (e : Dock) (o : Onlooker) → Knows e o → Knows (closing e) o
 unfolding closing
-closing-knows e o k = picked (λ (x : Dock). Knows x o) (e .handover) (withHanded e (handedOver (e .keys) (e .mode) (e .types))) e k k
+closing-knows e o k = picked (λ (x : Dock). Knows x o) (e .rest .handover) (withHanded e (handedOver (keysOf e) (e .rest .mode) (e .types))) e k k
 
-closing-set : (e : Dock) → closing e .mode .set ≡ e .mode .set
+closing-set : (e : Dock) → closing e .rest .mode .set ≡ e .rest .mode .set
 unfolding closing
-closing-set e = picked (λ (x : Dock). x .mode .set ≡ e .mode .set) (e .handover) (withHanded e (handedOver (e .keys) (e .mode) (e .types))) e refl refl
+closing-set e = picked (λ (x : Dock). x .rest .mode .set ≡ e .rest .mode .set) (e .rest .handover) (withHanded e (handedOver (keysOf e) (e .rest .mode) (e .types))) e refl refl
 
 module _ (d : Dock) (o : Onlooker) (k : Knows d o) (range : inRange d ≡ true) where
   pub scan-knows : (left : Bool) (scan : List ℕ) → Knows (scanOf d scan .dock) (sawScan left scan o)
@@ -218,12 +219,12 @@ module _ (d : Dock) (o : Onlooker) (k : Knows d o) (range : inRange d ≡ true) 
       go TooLarge = k
 
 -- The set after a frame that does not clear the queue, where none is being chosen.
-pub frame-set : (d : Dock) (number : ℕ) → inRange d ≡ true → isClearing number ≡ false → (d .waiting ≡ 0xf0 → ⊥)
-    → frameOf d number .dock .mode .set ≡ d .mode .set
+pub frame-set : (d : Dock) (number : ℕ) → inRange d ≡ true → isClearing number ≡ false → (d .rest .waiting ≡ 0xf0 → ⊥)
+    → frameOf d number .dock .rest .mode .set ≡ d .rest .mode .set
 unfolding frameOf tookFrame isClearing
 frame-set d number range c firm = rw range (go (unpackedOf number) c)
   where
-    go : (u : Unpacked) → carries clears u ≡ false → tookFrame u d .dock .mode .set ≡ d .mode .set
+    go : (u : Unpacked) → carries clears u ≡ false → tookFrame u d .dock .rest .mode .set ≡ d .rest .mode .set
     go (Byte byte) c = closing-set (tookByte byte d) ∙ took-set d byte (mild byte c) firm
     go Broken c = closing-set (replying (0xfe ∷ []) d)
     go TooLarge c = refl

@@ -9,11 +9,10 @@ use borrow.Author.Tests.{eq-eqb, ne-eqb, leb-false, lt-ltb}
 use lib.ListN.{length, getD}
 use Rattle.basics.proofs.Cases.{never}
 use Rattle.codes.specs.declared.Action.the-variants.{Release}
-use Rattle.keying.specs.declared.Handed.{Handed}
-use Rattle.keying.specs.Handover.{canLeave, handedFrom}
+use Rattle.keying.specs.Handover.{Handed, canLeave, handedFrom}
 use Rattle.queue.specs.Queues.{waiting}
 use Rattle.record.specs.declared.Mode.{Mode}
-use Rattle.record.specs.declared.Keys.{Keys}
+use Rattle.record.specs.Views.{Keys}
 use Rattle.runs.specs.Machines.{lowestFrom, findsNoRoom}
 use Rattle.sending.specs.Sending.{sends}
 use Rattle.telling.proofs.Handing.{held-up, passed, passed-gone, step}

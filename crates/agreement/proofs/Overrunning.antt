@@ -24,7 +24,7 @@ use Rattle.queue.proofs.Meaning.{tidy-short, length-waiting}
 use Rattle.range.specs.Range.{goodMode, goodKeys}
 use Rattle.range.proofs.Ranges.{good-keys-queue}
 use Rattle.record.specs.declared.Mode.{Mode}
-use Rattle.record.specs.declared.Keys.{Keys}
+use Rattle.record.specs.Views.{Keys, contactsOf, keysOf}
 use Rattle.record.specs.declared.Dock.{Dock}
 use Rattle.sending.specs.Sending.{sends}
 use Rattle.telling.specs.Overruns.{actionTo, lacksRoom, overrunsAt, overrunsTo}
@@ -34,7 +34,7 @@ use Rattle.telling.proofs.Whole.{turns-whole}
 -- The changes of a scan overrun the queue as it goes: one of them does not fit.
 unfoldable pub changesOverrun : Dock → List ℕ → Bool
 changesOverrun d scan =
-    overrunsTo 144 (d .mode) (d .types) (d .map) (d .contacts .closed) (countedOf (d .contacts) scan .closed) (ticked (d .keys))
+    overrunsTo 144 (d .rest .mode) (d .types) (d .map) (d .closed) (countedOf (contactsOf d) scan .closed) (ticked (keysOf d))
 
 -- A scan does: it is counted, and its changes do.
 unfoldable pub scanOverruns : Dock → List ℕ → Bool

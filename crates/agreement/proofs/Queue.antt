@@ -7,72 +7,60 @@ use mathlib.Core.List.{List, [], _∷_, _++_, append-nil, append-assoc}
 use Prim.Native.Nat.{ℕ, _≤_}
 use native.Mathlib.Omega.{arith}
 use borrow.Author.Tests.{eqb-false, not-true}
-use lib.Dec.{eqb}
 use lib.ListN.{length, getD, drop}
 use Rattle.basics.specs.Choice.{pick, either}
-use Rattle.basics.specs.Lists.{allUpTo}
 use Rattle.basics.proofs.Flags.{left-of-both, right-of-both}
-use Rattle.keys.specs.Keys.{lastKey}
 use Rattle.dock.specs.declared.Answered.{Answered}
-use Rattle.dock.specs.declared.Answer.the-variants.{Accepted, MapDouble}
-use Rattle.dock.specs.declared.Given.the-variants.{Nothing}
 use Rattle.dock.specs.declared.Taken.{Taken}
-use Rattle.dock.specs.Answers.{isAccepted, answered, taken}
-use Rattle.dock.specs.Closing.{closing}
+use Rattle.dock.specs.Answers.{isAccepted}
 use Rattle.dock.specs.Swap.{opened, remapped, swapped, swapOf}
 use Rattle.dock.specs.Frame.{tookFrame, frameOf}
-use Rattle.dock.specs.Read.{oldest, withoutOldest, oldestReply, repliesBehind, remembering, replyTaken, keyByteTaken, read, readOf}
+use Rattle.dock.specs.Read.{oldest, withoutOldest, oldestReply, repliesBehind, remembering, replyTaken, keyByteTaken, readOf}
 use Rattle.frames.specs.declared.Unpacked.{Unpacked}
 use Rattle.frames.specs.declared.Unpacked.the-variants.{Byte, Broken, TooLarge}
 use Rattle.frames.specs.Frames.{unpackedOf}
 use Rattle.commands.specs.Commands.{replying, commanded}
 use Rattle.host.specs.Values.{tookByte}
 use Rattle.host.proofs.Ladder.{by-value, by-byte}
-use Rattle.maps.specs.Maps.{hasDouble}
 use Rattle.queue.specs.Queues.{waiting}
 use Rattle.queue.proofs.Meaning.{waiting-queueOf}
-use Rattle.record.specs.declared.Keys.{Keys}
+use Rattle.record.specs.Views.{Keys, keysOf, withQueue}
+use Rattle.record.specs.Parts.{withKeys, withReplies}
 use Rattle.record.specs.declared.Dock.{Dock}
-use Rattle.record.specs.Parts.{withKeys, withReplies, withQueue}
 use Rattle.range.specs.Range.{inRange}
-use Rattle.runs.specs.Calls.{Call, Scan, Swap, Frame, Read, asBytes, clears, carries, isClearing, isClearingCall}
+use Rattle.dock.specs.Calls.{Call, Scan, Swap, Frame, Read, asBytes}
+use Rattle.runs.specs.Clearing.{clears, carries, isClearing, isClearingCall}
 use Rattle.runs.specs.Machines.{ours}
 use Rattle.runs.specs.Worlds.{World, woken, next, afterCalls}
 use Rattle.runs.specs.Runs.{overrunsIn, undisturbed}
 use Rattle.runs.specs.Bytes.{closingBytes, frameBytes, readBytes, queuedBy, keyBytesOf, givenBy, queuedIn, givenIn}
-use Rattle.basics.proofs.Cases.{by-cases, picked, neither-first}
+use Rattle.basics.proofs.Cases.{picked, neither-first}
 use Rattle.agreement.proofs.Framed.{mild, obeyed-mild}
 use Rattle.agreement.proofs.Taken.{some-wait}
 use Rattle.agreement.proofs.AnyCalls.{Sound, same-overrun, woken-sound, any-sound}
 use Rattle.agreement.proofs.Queuing.{bytesOf, closing-bytes, scan-bytes}
+use Rattle.dock.proofs.Calls.{by-swap, by-read}
 
 module _ (d : Dock) where
   -- A swap by itself queues nothing.
   remapped-bytes : (map : List ℕ) → bytesOf (remapped d map) ≡ bytesOf d
   unfolding remapped opened
-  remapped-bytes map = picked (λ (e : Dock). bytesOf e ≡ bytesOf d) (d .handover) _ _ refl refl
+  remapped-bytes map = picked (λ (e : Dock). bytesOf e ≡ bytesOf d) (d .rest .handover) _ _ refl refl
 
-  swap-bytes : (map : List ℕ) → inRange d ≡ true → bytesOf (swapOf d map .dock) ≡ bytesOf d ++ queuedBy d (Swap map)
-  unfolding swapOf swapped
-  swap-bytes map range =
+  swap-bytes : (map : List ℕ) → bytesOf (swapOf d map .dock) ≡ bytesOf d ++ queuedBy d (Swap map)
+  unfolding swapped
+  swap-bytes map =
       let then = remapped d map in
-      let Grown : Answered → Type 0 =
-      λ (a : Answered). bytesOf (a .dock) ≡ bytesOf d ++ pick (isAccepted (a .answer)) (closingBytes (remapped d map)) [] in
-      let same : bytesOf d ≡ bytesOf d ++ [] = sym (append-nil (bytesOf d)) in
-      rw range
-      (picked Grown (eqb (length map) 144) _ _
-      (picked Grown (allUpTo lastKey map) _ _
-      (picked Grown (hasDouble map) (answered MapDouble d) (answered Accepted (swapped d map)) same
-      (closing-bytes then ∙ ap (λ (l : List ℕ). l ++ closingBytes then) (remapped-bytes map)))
-      same)
-      same)
+      by-swap (λ (a : Answered). bytesOf (a .dock) ≡ bytesOf d ++ pick (isAccepted (a .answer)) (closingBytes then) []) d
+      (λ answer refused. rw refused (sym (append-nil (bytesOf d)))) map
+      (λ good. closing-bytes then ∙ ap (λ (l : List ℕ). l ++ closingBytes then) (remapped-bytes map))
 
   -- Nor does a byte from the host, unless it clears the queue.
-  took-keys : (byte : ℕ) → clears byte ≡ false → tookByte byte d .keys ≡ d .keys
+  took-keys : (byte : ℕ) → clears byte ≡ false → keysOf (tookByte byte d) ≡ keysOf d
   unfolding commanded
   took-keys byte mildly =
-      let Same : Dock → Type 0 = λ (e : Dock). e .keys ≡ d .keys in
-      by-byte Same byte d (λ fe. refl) (λ other high. ap (λ (e : Dock). e .keys) (obeyed-mild byte d (mild byte mildly)))
+      let Same : Dock → Type 0 = λ (e : Dock). keysOf e ≡ keysOf d in
+      by-byte Same byte d (λ fe. refl) (λ other high. ap (λ (e : Dock). keysOf e) (obeyed-mild byte d (mild byte mildly)))
       (λ low right. by-value Same byte d (λ ed. refl) (λ f0. refl) (λ f3. refl) refl)
       (λ low wrong. refl)
 
@@ -96,37 +84,34 @@ first-and-rest (x ∷ xs) some = refl
 
 read-bytes : (w : World) → Sound w
     → bytesOf (w .dock) ++ queuedBy (w .dock) Read ≡ givenBy (w .dock) Read ++ bytesOf (readOf (w .dock) .dock)
-unfolding readOf read replyTaken keyByteTaken remembering closingBytes
+unfolding replyTaken keyByteTaken remembering closingBytes
 read-bytes w s =
     let d = w .dock in
-    let q = d .keys .queue in
-    let Kept : Taken → Type 0 =
-    λ (t : Taken). bytesOf (w .dock) ++ readBytes (t .given) (w .dock) ≡ keyBytesOf (t .given) ++ bytesOf (t .dock) in
-    rw (s .range)
-    (picked Kept (eqb (d .replies .length) 0) _ (replyTaken d)
-    (by-cases Kept (eqb (q .length) 0) (taken Nothing (closing d)) (keyByteTaken d)
-    (λ none. sym (closing-bytes d))
-    (λ some.
-    let rest = withKeys d (withQueue (d .keys) (withoutOldest q)) in
+    let q = d .rest .outgoing .queue in
+    let rest = withKeys d (withQueue (keysOf d) (withoutOldest q)) in
+    by-read (λ (t : Taken). bytesOf (w .dock) ++ readBytes (t .given) (w .dock) ≡ keyBytesOf (t .given) ++ bytesOf (t .dock)) d
+    (append-nil (bytesOf d))
+    (λ none empty. sym (closing-bytes d))
+    (λ none some.
     let first = first-and-rest (waiting q) (some-wait q (s .settled .ready .places .bytes) (eqb-false (q .length) 0 some)) in
     let after = closing-bytes (remembering rest (oldest q))
     ∙ ap (λ (l : List ℕ). l ++ closingBytes rest) (waiting-queueOf (drop 1 (waiting q))) in
-    ap (λ (l : List ℕ). l ++ closingBytes rest) first ∙ ap (λ (l : List ℕ). oldest q ∷ l) (sym after)))
-    (sym (closing-bytes (remembering (withReplies d (repliesBehind (d .replies))) (oldestReply (d .replies))))))
+    ap (λ (l : List ℕ). l ++ closingBytes rest) first ∙ ap (λ (l : List ℕ). oldest q ∷ l) (sym after))
+    (λ some. sym (closing-bytes (remembering (withReplies d (repliesBehind (d .rest .replies))) (oldestReply (d .rest .replies)))))
 
 -- One call.
 pub call-keeps-bytes : (w : World) (call : Call) → Sound w → either (isClearingCall call) (overrunsIn w call) ≡ false
-    → waiting (w .dock .keys .queue) ++ queuedBy (w .dock) call ≡ givenBy (w .dock) call ++ waiting (next ours w call .dock .keys .queue)
+    → waiting (w .dock .rest .outgoing .queue) ++ queuedBy (w .dock) call ≡ givenBy (w .dock) call ++ waiting (next ours w call .dock .rest .outgoing .queue)
 unfolding next
 call-keeps-bytes w (Scan scan) s calm = sym (scan-bytes (w .dock) (asBytes scan) (s .range) (sym (same-overrun w s scan) ∙ calm))
-call-keeps-bytes w (Swap map) s calm = sym (swap-bytes (w .dock) map (s .range))
+call-keeps-bytes w (Swap map) s calm = sym (swap-bytes (w .dock) map)
 call-keeps-bytes w (Frame number) s calm =
     sym (frame-bytes (w .dock) number (s .range) (neither-first (isClearingCall (Frame number)) false calm))
 call-keeps-bytes w Read s calm = read-bytes w s
 
 -- Any calls.
 pub bytes-kept : (calls : List Call) (w : World) → Sound w → undisturbed ours w calls ≡ true
-    → waiting (w .dock .keys .queue) ++ queuedIn w calls ≡ givenIn w calls ++ waiting (afterCalls ours w calls .dock .keys .queue)
+    → waiting (w .dock .rest .outgoing .queue) ++ queuedIn w calls ≡ givenIn w calls ++ waiting (afterCalls ours w calls .dock .rest .outgoing .queue)
 unfolding afterCalls undisturbed queuedIn givenIn
 bytes-kept [] w s calm = append-nil (bytesOf (w .dock))
 bytes-kept (call ∷ calls) w s calm =
@@ -145,6 +130,6 @@ bytes-kept (call ∷ calls) w s calm =
 
 -- So it is from any moment since power-on.
 pub bytes-kept-since : (earlier calls : List Call) → undisturbed ours (afterCalls ours (woken ours) earlier) calls ≡ true
-    → waiting (afterCalls ours (woken ours) earlier .dock .keys .queue) ++ queuedIn (afterCalls ours (woken ours) earlier) calls
-    ≡ givenIn (afterCalls ours (woken ours) earlier) calls ++ waiting (afterCalls ours (afterCalls ours (woken ours) earlier) calls .dock .keys .queue)
+    → waiting (afterCalls ours (woken ours) earlier .dock .rest .outgoing .queue) ++ queuedIn (afterCalls ours (woken ours) earlier) calls
+    ≡ givenIn (afterCalls ours (woken ours) earlier) calls ++ waiting (afterCalls ours (afterCalls ours (woken ours) earlier) calls .dock .rest .outgoing .queue)
 bytes-kept-since earlier calls calm = bytes-kept calls (afterCalls ours (woken ours) earlier) (any-sound earlier (woken ours) woken-sound) calm

@@ -21,9 +21,9 @@ use Rattle.queue.specs.declared.Queue.{Queue}
 use Rattle.queue.specs.Queues.{waiting}
 use Rattle.queue.proofs.Meaning.{waiting-queueOf}
 use Rattle.record.specs.declared.Mode.{Mode}
-use Rattle.record.specs.declared.Keys.{Keys}
-use Rattle.record.specs.declared.Dock.{Dock}
+use Rattle.record.specs.Views.{Keys, keysOf, contactsOf}
 use Rattle.record.specs.Parts.{withKeys}
+use Rattle.record.specs.declared.Dock.{Dock}
 use Rattle.range.specs.Range.{inRange}
 use Rattle.runs.specs.Bytes.{repeatBytes, changeBytes, heardBytes, closingBytes, scanBytes}
 use Rattle.telling.specs.Queued.{turnBytes}
@@ -34,14 +34,14 @@ use Rattle.agreement.proofs.Following.{none-wait}
 
 -- What waits in a dock.
 abbrev pub bytesOf : Dock → List ℕ
-bytesOf d = waiting (d .keys .queue)
+bytesOf d = waiting (d .rest .outgoing .queue)
 
 -- The end of a call.
 pub closing-bytes : (d : Dock) → bytesOf (closing d) ≡ bytesOf d ++ closingBytes d
 unfolding closing closingBytes
 closing-bytes d =
-    two-by-cases (λ (e : Dock) (bytes : List ℕ). bytesOf e ≡ bytesOf d ++ bytes) (d .handover) _ _ _ _
-    (λ opened. handed-whole (d .mode) (d .types) lastKey 1 (d .keys))
+    two-by-cases (λ (e : Dock) (bytes : List ℕ). bytesOf e ≡ bytesOf d ++ bytes) (d .rest .handover) _ _ _ _
+    (λ opened. handed-whole (d .rest .mode) (d .types) lastKey 1 (keysOf d))
     (λ shut. sym (append-nil (bytesOf d)))
 
 -- A repeat is sent only where nothing waits.
@@ -59,26 +59,26 @@ repeated-bytes m types k quiet none =
     (λ stops. same))
     (λ not-due. same)
 
-repeating-bytes : (d : Dock) → bytesOf (repeating d) ≡ bytesOf d ++ repeatBytes (d .keys) (d .mode) (d .types) (quiet d)
+repeating-bytes : (d : Dock) → bytesOf (repeating d) ≡ bytesOf d ++ repeatBytes (keysOf d) (d .rest .mode) (d .types) (quiet d)
 unfolding repeating
 repeating-bytes d =
-    let q = d .keys .queue in
-    repeated-bytes (d .mode) (d .types) (d .keys) (quiet d)
-    (λ e. none-wait q (eqb-true (q .length) 0 (right-of-both (eqb (d .replies .length) 0) (eqb (q .length) 0) e)))
+    let q = d .rest .outgoing .queue in
+    repeated-bytes (d .rest .mode) (d .types) (keysOf d) (quiet d)
+    (λ e. none-wait q (eqb-true (q .length) 0 (right-of-both (eqb (d .rest .replies .length) 0) (eqb (q .length) 0) e)))
 
 module _ (d : Dock) (scan : List ℕ) where
   still : Dock
-  still = withKeys d (ticked (d .keys))
+  still = withKeys d (ticked (keysOf d))
 
   heard-bytes : both (not (isPhantom scan)) (changesOverrun d scan) ≡ false → bytesOf (heardScan d scan) ≡ bytesOf d ++ heardBytes d scan
   unfolding still changesOverrun heardScan heardBytes changed changeBytes counting
   heard-bytes = go (isPhantom scan)
     where
       turned : List ℕ
-      turned = turnBytes 144 (d .mode) (d .types) (d .map) (d .contacts .closed) (countedOf (d .contacts) scan .closed) (ticked (d .keys))
+      turned = turnBytes 144 (d .rest .mode) (d .types) (d .map) (d .closed) (countedOf (contactsOf d) scan .closed) (ticked (keysOf d))
 
       repeats : Dock → List ℕ
-      repeats e = repeatBytes (e .keys) (e .mode) (e .types) (quiet e)
+      repeats e = repeatBytes (keysOf e) (e .rest .mode) (e .types) (quiet e)
 
       go : (phantom : Bool) → both (not phantom) (changesOverrun d scan) ≡ false
           → bytesOf (repeating (pick phantom still (counting still scan)))
@@ -88,7 +88,7 @@ module _ (d : Dock) (scan : List ℕ) where
           let then = counting still scan in
           repeating-bytes then
           ∙ ap (λ (l : List ℕ). l ++ repeats then)
-          (turns-whole (d .mode) (d .types) (d .map) 144 (d .contacts .closed) (countedOf (d .contacts) scan .closed) (ticked (d .keys)) room)
+          (turns-whole (d .rest .mode) (d .types) (d .map) 144 (d .closed) (countedOf (contactsOf d) scan .closed) (ticked (keysOf d)) room)
           ∙ append-assoc (bytesOf d) turned (repeats then)
 
   scanned-bytes : scanOverruns d scan ≡ false → bytesOf (scanned d scan) ≡ bytesOf d ++ scanBytes d scan

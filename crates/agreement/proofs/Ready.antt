@@ -7,9 +7,8 @@ use native.Mathlib.Omega.{arith}
 use lib.ListN.{length}
 use Rattle.basics.specs.Lists.{allUpTo}
 use Rattle.keys.specs.Keys.{lastKey}
-use Rattle.contacts.specs.declared.Contacts.{Contacts}
+use Rattle.contacts.specs.Counts.{Contacts, unseen}
 use Rattle.contacts.specs.Scans.{contact}
-use Rattle.contacts.specs.Counts.{unseen}
 use Rattle.dock.specs.Closing.{withHanded, closing}
 use Rattle.history.specs.Scans.{countedAll}
 use Rattle.history.proofs.Held.{one-place}
@@ -17,7 +16,7 @@ use Rattle.keying.specs.Handover.{handedOver}
 use Rattle.keying.proofs.Places.{Places, handed-places}
 use Rattle.maps.specs.Maps.{hasDouble}
 use Rattle.queue.specs.Queues.{waiting}
-use Rattle.record.specs.declared.Keys.{Keys}
+use Rattle.record.specs.Views.{Keys, contactsOf, keysOf}
 use Rattle.record.specs.declared.Dock.{Dock}
 use Rattle.telling.specs.Agreeing.{Agrees, EachOnce, NoneOutside, RepeatsHeld}
 use Rattle.basics.proofs.Cases.{by-cases, never}
@@ -41,13 +40,13 @@ pub record Ready (map : List ℕ) (contacts : Contacts) (keys : Keys) (handover 
   pub anew : handover ≡ true → scans ≡ []
 
 abbrev pub IsReady : Dock → List (List ℕ) → Type 0
-IsReady d scans = Ready (d .map) (d .contacts) (d .keys) (d .handover) scans
+IsReady d scans = Ready (d .map) (contactsOf d) (keysOf d) (d .rest .handover) scans
 
 -- After a call moreover: where a handover is open, more than half the queue waits, and a key is left that finds no room.
 pub record Settled (d : Dock) (scans : List (List ℕ)) : Type 0 where
   pub ready : IsReady d scans
-  pub waits : d .handover ≡ true → 9 ≤ length (waiting (d .keys .queue))
-  pub left : d .handover ≡ true → keyLeft d ≡ true
+  pub waits : d .rest .handover ≡ true → 9 ≤ length (waiting (d .rest .outgoing .queue))
+  pub left : d .rest .handover ≡ true → keyLeft d ≡ true
 
 -- Other keys with the same flags will do.
 pub same-flags : (map : List ℕ) (contacts : Contacts) (k : Keys) (handover : Bool) (scans : List (List ℕ)) → Ready map contacts k handover scans
@@ -76,31 +75,31 @@ all-open contacts scans seen none position h =
     ap (λ (k : Contacts). contact (k .closed) position) (seen ∙ ap (countedAll unseen) none) ∙ contact-open 18 position
 
 -- With no handover open a dock that is ready is settled.
-pub shut-settled : (d : Dock) (scans : List (List ℕ)) → d .handover ≡ false → IsReady d scans → Settled d scans
+pub shut-settled : (d : Dock) (scans : List (List ℕ)) → d .rest .handover ≡ false → IsReady d scans → Settled d scans
 shut-settled d scans shut r =
-    record { ready = r; waits = λ opened. never (d .handover) opened shut; left = λ opened. never (d .handover) opened shut }
+    record { ready = r; waits = λ opened. never (d .rest .handover) opened shut; left = λ opened. never (d .rest .handover) opened shut }
 
 -- Every accepted call ends so that the dock is settled.
 pub closing-settled : (d : Dock) (scans : List (List ℕ)) → IsReady d scans → Settled (closing d) scans
 unfolding closing keyLeft
 closing-settled d scans r =
-    let h = handedOver (d .keys) (d .mode) (d .types) in
-    by-cases (λ (e : Dock). Settled e scans) (d .handover) (withHanded d h) d
+    let h = handedOver (keysOf d) (d .rest .mode) (d .types) in
+    by-cases (λ (e : Dock). Settled e scans) (d .rest .handover) (withHanded d h) d
     (λ opened. record {
       ready = record {
         long = r .long;
         entries = r .entries;
         single = r .single;
-        places = handed-places (d .mode) lastKey 1 (d .keys) (d .types) (r .places);
-        outside = handed-outside (d .mode) (d .types) lastKey 1 (d .keys) (r .outside);
-        repeats = handed-repeat (d .mode) lastKey 1 (d .keys) (d .types) (r .repeats);
+        places = handed-places (d .rest .mode) lastKey 1 (keysOf d) (d .types) (r .places);
+        outside = handed-outside (d .rest .mode) (d .types) lastKey 1 (keysOf d) (r .outside);
+        repeats = handed-repeat (d .rest .mode) lastKey 1 (keysOf d) (d .types) (r .repeats);
         seen = r .seen;
-        agree = λ done. none-agree (d .map) (d .contacts .closed) (h .keys .held)
-            (handed-all (d .mode) (d .types) (d .keys) (r .outside) done)
-            (all-open (d .contacts) scans (r .seen) (r .anew opened));
+        agree = λ done. none-agree (d .map) (d .closed) (h .keys .held)
+            (handed-all (d .rest .mode) (d .types) (keysOf d) (r .outside) done)
+            (all-open (contactsOf d) scans (r .seen) (r .anew opened));
         anew = λ unfinished. r .anew opened;
       };
-      waits = handed-waits (d .mode) (d .types) lastKey 1 (d .keys);
-      left = handed-stuck (d .mode) (d .types) lastKey 1 (d .keys) (omega arith);
+      waits = handed-waits (d .rest .mode) (d .types) lastKey 1 (keysOf d);
+      left = handed-stuck (d .rest .mode) (d .types) lastKey 1 (keysOf d) (omega arith);
     })
     (λ shut. shut-settled d scans shut r)

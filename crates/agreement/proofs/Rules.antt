@@ -20,7 +20,7 @@ use Rattle.keys.specs.Keys.{rows}
 use Rattle.lookup.specs.Lookup.{firstWith, keyWith}
 use Rattle.phantom.specs.Phantom.{sharesAny, isPhantom}
 use Rattle.range.specs.Range.{takesValue}
-use Rattle.runs.specs.Calls.{asBytes}
+use Rattle.dock.specs.Calls.{asBytes}
 use Rattle.runs.specs.Rules.{oneOf, numbersFrom, closedIn, inCommon, sharesTwo, looksPhantom, setThreeCodes, valuesFor, waitsForValue}
 
 -- A row that is closed in both of two columns is closed in what they have in common.

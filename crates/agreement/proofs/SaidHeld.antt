@@ -11,7 +11,7 @@ use lib.ListN.{length, getD, replicate}
 use Rattle.basics.specs.Choice.{both, either}
 use Rattle.basics.proofs.Cases.{neither, either-true}
 use Rattle.basics.proofs.Flags.{left-of-both, right-of-both, both-false}
-use Rattle.contacts.specs.declared.Contacts.{Contacts}
+use Rattle.contacts.specs.Counts.{Contacts}
 use Rattle.contacts.specs.Scans.{contact}
 use Rattle.contacts.proofs.Pointwise.{contact-small}
 use Rattle.history.specs.Rows.{saysClosed}
@@ -31,24 +31,24 @@ closed-or-open (suc zero) h = refl
 closed-or-open (suc (suc c)) h = absurd (omega arith)
 
 -- Where no handover is open, the held keys are those that the scans say are held.
-pub held-is-said : (d : Dock) (scans : List (List ℕ)) → IsReady d scans → d .handover ≡ false → (key : ℕ) → 1 ≤ key
-    → not (eqb (getD (d .keys .held) key 0) 0) ≡ saysHeld (d .map) scans key
+pub held-is-said : (d : Dock) (scans : List (List ℕ)) → IsReady d scans → d .rest .handover ≡ false → (key : ℕ) → 1 ≤ key
+    → not (eqb (getD (d .held) key 0) 0) ≡ saysHeld (d .map) scans key
 held-is-said d scans r shut key low = go (isIn key (d .map)) refl
   where
-    agree : Agrees (d .map) (d .contacts .closed) (d .keys .held)
+    agree : Agrees (d .map) (d .closed) (d .held)
     agree = r .agree shut
 
-    go : (there : Bool) → isIn key (d .map) ≡ there → not (eqb (getD (d .keys .held) key 0) 0) ≡ saysHeld (d .map) scans key
+    go : (there : Bool) → isIn key (d .map) ≡ there → not (eqb (getD (d .held) key 0) 0) ≡ saysHeld (d .map) scans key
     go true e =
         let found = found-at key (d .map) e in
         let p = found .0 in
         let at : getD (d .map) p 0 ≡ key = found .2 in
         let within : p < 144 = rw (r .long) at (found .1) in
         let some : getD (d .map) p 0 ≡ 0 → ⊥ = λ z. omega arith in
-        let held : getD (d .keys .held) key 0 ≡ contact (d .contacts .closed) p = rw at at (agree .mapped p within some) in
+        let held : getD (d .held) key 0 ≡ contact (d .closed) p = rw at at (agree .mapped p within some) in
         let said = ap (λ (k : Contacts). eqb (contact (k .closed) p) 1) (r .seen) ∙ counters-agree scans p within in
         rw held
-        (closed-or-open (contact (d .contacts .closed) p) (contact-small (d .contacts .closed) p)
+        (closed-or-open (contact (d .closed) p) (contact-small (d .closed) p)
         ∙ said ∙ sym (says-held-at (d .map) scans p key (r .single) (found .1) at low))
     go false e =
         let none = agree .unmapped key (λ p h some at. absent-at key (d .map) e p (rw (r .long) h) at) in
@@ -78,13 +78,13 @@ none-said position (k ∷ ks) scans key some none =
     go false e = both-false (eqb k key)
 
 -- so that none is held.
-pub none-held : (d : Dock) (scans : List (List ℕ)) → IsReady d scans → d .handover ≡ false → noneHeldFrom 0 (d .map) scans ≡ true
-    → (key : ℕ) → getD (d .keys .held) key 0 ≡ 0
+pub none-held : (d : Dock) (scans : List (List ℕ)) → IsReady d scans → d .rest .handover ≡ false → noneHeldFrom 0 (d .map) scans ≡ true
+    → (key : ℕ) → getD (d .held) key 0 ≡ 0
 unfolding saysHeld
 none-held d scans r shut none zero = r .outside 0 (inl refl)
 none-held d scans r shut none (suc key) =
-    eqb-true (getD (d .keys .held) (suc key) 0) 0
-    (not-false (eqb (getD (d .keys .held) (suc key) 0) 0)
+    eqb-true (getD (d .held) (suc key) 0) 0
+    (not-false (eqb (getD (d .held) (suc key) 0) 0)
     (held-is-said d scans r shut (suc key) (omega arith) ∙ none-said 0 (d .map) scans (suc key) (omega arith) none))
 
 -- No scan says nothing of any key.

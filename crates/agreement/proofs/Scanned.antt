@@ -9,9 +9,8 @@ use lib.ListN.{length}
 use Rattle.basics.specs.Choice.{pick, both}
 use Rattle.basics.proofs.Flags.{right-of-both}
 use Rattle.basics.proofs.Cases.{never}
-use Rattle.contacts.specs.declared.Contacts.{Contacts}
+use Rattle.contacts.specs.Counts.{Contacts, unseen, countedOf}
 use Rattle.phantom.specs.Phantom.{isPhantom}
-use Rattle.contacts.specs.Counts.{unseen, countedOf}
 use Rattle.dock.specs.Answers.{answered}
 use Rattle.dock.specs.declared.Answer.the-variants.{Accepted, ScanLength}
 use Rattle.dock.specs.Closing.{closing}
@@ -20,9 +19,9 @@ use Rattle.history.proofs.Counters.{counted-again}
 use Rattle.keying.specs.Moves.{turnsTo}
 use Rattle.keying.specs.Repeat.{ticked, repeated}
 use Rattle.keying.proofs.Places.{turns-places, repeated-places}
-use Rattle.record.specs.declared.Keys.{Keys}
-use Rattle.record.specs.declared.Dock.{Dock}
+use Rattle.record.specs.Views.{contactsOf, keysOf, Keys}
 use Rattle.record.specs.Parts.{withKeys}
+use Rattle.record.specs.declared.Dock.{Dock}
 use Rattle.range.specs.Range.{inRange}
 use Rattle.telling.proofs.Held.{turns-agree}
 use Rattle.telling.proofs.Repeating.{turns-repeat, turns-outside, repeated-repeats, repeated-held}
@@ -33,57 +32,57 @@ use Rattle.agreement.proofs.Following.{Follows, none-wait, repeats-with
 use Rattle.agreement.proofs.Ready.{Ready, IsReady, Settled, same-flags, at-once, shut-settled, closing-settled}
 
 -- Scans are listened to only while no handover is open.
-listening-shut : (d : Dock) → listening d ≡ true → d .handover ≡ false
+listening-shut : (d : Dock) → listening d ≡ true → d .rest .handover ≡ false
 unfolding listening
 listening-shut d h =
-    not-true (d .handover)
-    (right-of-both (eqb (d .waiting) 0) (not (d .handover)) (right-of-both (d .scanning) (both (eqb (d .waiting) 0) (not (d .handover))) h))
+    not-true (d .rest .handover)
+    (right-of-both (eqb (d .rest .waiting) 0) (not (d .rest .handover)) (right-of-both (d .rest .scanning) (both (eqb (d .rest .waiting) 0) (not (d .rest .handover))) h))
 
-module _ (d : Dock) (scans : List (List ℕ)) (shut : d .handover ≡ false) where
+module _ (d : Dock) (scans : List (List ℕ)) (shut : d .rest .handover ≡ false) where
   -- A tick.
-  ticked-ready : IsReady d scans → Ready (d .map) (d .contacts) (ticked (d .keys)) (d .handover) scans
+  ticked-ready : IsReady d scans → Ready (d .map) (contactsOf d) (ticked (keysOf d)) (d .rest .handover) scans
   ticked-ready r =
-      same-flags (d .map) (d .contacts) (d .keys) (d .handover) scans r (ticked (d .keys)) refl (r .places .bytes) (r .repeats)
+      same-flags (d .map) (contactsOf d) (keysOf d) (d .rest .handover) scans r (ticked (keysOf d)) refl (r .places .bytes) (r .repeats)
 
   -- The changes of a counted scan.
   module _ (scan : List ℕ) (k : Keys) where
-    turned-ready : Ready (d .map) (d .contacts) k (d .handover) scans
-        → Ready (d .map) (countedOf (d .contacts) scan)
-        (turnsTo 144 (d .mode) (d .types) (d .map) (d .contacts .closed) (countedOf (d .contacts) scan .closed) k)
-        (d .handover) (scans ++ (scan ∷ []))
+    turned-ready : Ready (d .map) (contactsOf d) k (d .rest .handover) scans
+        → Ready (d .map) (countedOf (contactsOf d) scan)
+        (turnsTo 144 (d .rest .mode) (d .types) (d .map) (d .closed) (countedOf (contactsOf d) scan .closed) k)
+        (d .rest .handover) (scans ++ (scan ∷ []))
     turned-ready r =
-        let was = d .contacts .closed in
-        let is = countedOf (d .contacts) scan .closed in
+        let was = d .closed in
+        let is = countedOf (contactsOf d) scan .closed in
         record {
           long = r .long;
           entries = r .entries;
           single = r .single;
-          places = turns-places (d .mode) (d .types) (d .map) (r .entries) 144 was is k (r .places);
-          outside = turns-outside (d .mode) (d .types) (d .map) (r .entries) 144 was is k (r .outside);
-          repeats = turns-repeat (d .mode) (d .types) (d .map) (r .entries) 144 was is k (r .places .flags) (r .repeats);
+          places = turns-places (d .rest .mode) (d .types) (d .map) (r .entries) 144 was is k (r .places);
+          outside = turns-outside (d .rest .mode) (d .types) (d .map) (r .entries) 144 was is k (r .outside);
+          repeats = turns-repeat (d .rest .mode) (d .types) (d .map) (r .entries) 144 was is k (r .places .flags) (r .repeats);
           seen = ap (λ (c : Contacts). countedOf c scan) (r .seen) ∙ sym (counted-again unseen scans scan);
-          agree = λ s. turns-agree (d .mode) (d .types) (d .map) was is k (r .places .flags) (r .entries)
+          agree = λ s. turns-agree (d .rest .mode) (d .types) (d .map) was is k (r .places .flags) (r .entries)
               (at-once (d .map) (r .long) (r .single)) (r .agree s);
-          anew = λ opened. never (d .handover) opened shut;
+          anew = λ opened. never (d .rest .handover) opened shut;
         }
 
 -- The repeat.
 repeated-ready : (d : Dock) (scans : List (List ℕ)) → IsReady d scans → IsReady (repeating d) scans
 unfolding repeating
 repeated-ready d scans r =
-    same-flags (d .map) (d .contacts) (d .keys) (d .handover) scans r (repeated (d .keys) (d .mode) (d .types) (quiet d))
-    (repeated-held (d .mode) (d .keys) (d .types) (quiet d))
-    (repeated-places (d .mode) (d .keys) (d .types) (quiet d) (r .places) .bytes)
-    (repeated-repeats (d .mode) (d .keys) (d .types) (quiet d) (r .repeats))
+    same-flags (d .map) (contactsOf d) (keysOf d) (d .rest .handover) scans r (repeated (keysOf d) (d .rest .mode) (d .types) (quiet d))
+    (repeated-held (d .rest .mode) (keysOf d) (d .types) (quiet d))
+    (repeated-places (d .rest .mode) (keysOf d) (d .types) (quiet d) (r .places) .bytes)
+    (repeated-repeats (d .rest .mode) (keysOf d) (d .types) (quiet d) (r .repeats))
 
 -- A scan that is listened to.
-heard-settled : (d : Dock) (scans : List (List ℕ)) (scan : List ℕ) → d .handover ≡ false → IsReady d scans
+heard-settled : (d : Dock) (scans : List (List ℕ)) (scan : List ℕ) → d .rest .handover ≡ false → IsReady d scans
     → Settled (heardScan d scan) (pick (not (isPhantom scan)) (scans ++ (scan ∷ [])) scans)
 unfolding heardScan changed counting repeating
 heard-settled d scans scan shut r = go (isPhantom scan)
   where
     still : Dock
-    still = withKeys d (ticked (d .keys))
+    still = withKeys d (ticked (keysOf d))
 
     longer : List (List ℕ)
     longer = scans ++ (scan ∷ [])
@@ -95,7 +94,7 @@ heard-settled d scans scan shut r = go (isPhantom scan)
     go true = shut-settled (repeating still) scans shut (repeated-ready still scans ready)
     go false =
         shut-settled (repeating (counting still scan)) longer shut
-        (repeated-ready (counting still scan) longer (turned-ready d scans shut scan (ticked (d .keys)) ready))
+        (repeated-ready (counting still scan) longer (turned-ready d scans shut scan (ticked (keysOf d)) ready))
 
 scanned-settled : (d : Dock) (scans : List (List ℕ)) (scan : List ℕ) → Settled d scans
     → Settled (scanned d scan) (pick (isCounted d scan) (scans ++ (scan ∷ [])) scans)
@@ -121,39 +120,39 @@ scan-settled d scans scan range s = rw range (go (eqb (length scan) 18))
 
 -- The terminal: a tick, the changes of a counted scan, and the repeat.
 module _ (t : Terminal) where
-  ticked-follows : (d : Dock) → Follows d t → Follows (withKeys d (ticked (d .keys))) t
+  ticked-follows : (d : Dock) → Follows d t → Follows (withKeys d (ticked (keysOf d))) t
   ticked-follows d f =
-      record { chosen = f .chosen; firm = f .firm; told = ticked-told (d .mode .set) t (d .keys) (f .told) }
+      record { chosen = f .chosen; firm = f .firm; told = ticked-told (d .rest .mode .set) t (keysOf d) (f .told) }
 
   repeated-follows : (d : Dock) (scans : List (List ℕ)) → IsReady d scans → Follows d t → Follows (repeating d) t
   unfolding repeating
   repeated-follows d scans r f =
-      let q = d .keys .queue in
+      let q = d .rest .outgoing .queue in
       record {
         chosen = f .chosen;
         firm = f .firm;
-        told = repeated-told (d .mode) (f .chosen) t (d .types) (d .keys) (quiet d) (r .repeats) (repeats-within (d .keys) (r .outside) (r .repeats))
-            (λ e. none-wait q (eqb-true (q .length) 0 (right-of-both (eqb (d .replies .length) 0) (eqb (q .length) 0) e))) (f .told);
+        told = repeated-told (d .rest .mode) (f .chosen) t (d .types) (keysOf d) (quiet d) (r .repeats) (repeats-within (keysOf d) (r .outside) (r .repeats))
+            (λ e. none-wait q (eqb-true (q .length) 0 (right-of-both (eqb (d .rest .replies .length) 0) (eqb (q .length) 0) e))) (f .told);
       }
 
   counting-follows : (d : Dock) (scans : List (List ℕ)) (scan : List ℕ) → IsReady d scans → changesOverrun d scan ≡ false → Follows d t
-      → Follows (counting (withKeys d (ticked (d .keys))) scan) t
+      → Follows (counting (withKeys d (ticked (keysOf d))) scan) t
   unfolding counting changesOverrun
   counting-follows d scans scan r room f =
       record {
         chosen = f .chosen;
         firm = f .firm;
-        told = turns-told (d .mode) (f .chosen) t (d .types) (d .map) (r .entries) 144 (d .contacts .closed)
-            (countedOf (d .contacts) scan .closed) (ticked (d .keys)) room (ticked-told (d .mode .set) t (d .keys) (f .told));
+        told = turns-told (d .rest .mode) (f .chosen) t (d .types) (d .map) (r .entries) 144 (d .closed)
+            (countedOf (contactsOf d) scan .closed) (ticked (keysOf d)) room (ticked-told (d .rest .mode .set) t (keysOf d) (f .told));
       }
 
   module _ (d : Dock) (scans : List (List ℕ)) (scan : List ℕ) (s : Settled d scans) (f : Follows d t) where
-    heard-follows : d .handover ≡ false → both (not (isPhantom scan)) (changesOverrun d scan) ≡ false → Follows (heardScan d scan) t
+    heard-follows : d .rest .handover ≡ false → both (not (isPhantom scan)) (changesOverrun d scan) ≡ false → Follows (heardScan d scan) t
     unfolding heardScan changed counting
     heard-follows shut = go (isPhantom scan)
       where
         still : Dock
-        still = withKeys d (ticked (d .keys))
+        still = withKeys d (ticked (keysOf d))
 
         ready : IsReady still scans
         ready = ticked-ready d scans shut (s .ready)
@@ -161,7 +160,7 @@ module _ (t : Terminal) where
         go : (phantom : Bool) → both (not phantom) (changesOverrun d scan) ≡ false → Follows (repeating (pick phantom still (counting still scan))) t
         go true room = repeated-follows still scans ready (ticked-follows d f)
         go false room =
-            repeated-follows (counting still scan) (scans ++ (scan ∷ [])) (turned-ready d scans shut scan (ticked (d .keys)) ready)
+            repeated-follows (counting still scan) (scans ++ (scan ∷ [])) (turned-ready d scans shut scan (ticked (keysOf d)) ready)
             (counting-follows d scans scan (s .ready) room f)
 
     scanned-follows : scanOverruns d scan ≡ false → Follows (scanned d scan) t

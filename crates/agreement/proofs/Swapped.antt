@@ -11,7 +11,6 @@ use Rattle.basics.specs.Choice.{pick, both}
 use Rattle.basics.specs.Lists.{allUpTo}
 use Rattle.keys.specs.Keys.{lastKey}
 use Rattle.contacts.specs.Counts.{unseen}
-use Rattle.dock.specs.declared.Answered.{Answered}
 use Rattle.dock.specs.declared.Answer.the-variants.{Accepted, MapLength, MapEntry, MapDouble}
 use Rattle.dock.specs.Answers.{answered}
 use Rattle.dock.specs.Swap.{opened, remapped, swapped, swapOf}
@@ -25,6 +24,7 @@ use Rattle.basics.proofs.Cases.{by-cases, picked, never}
 use Rattle.terminal.specs.Terminals.{Terminal}
 use Rattle.agreement.proofs.Following.{Follows, closing-follows}
 use Rattle.agreement.proofs.Ready.{IsReady, Settled, closing-settled}
+use Rattle.dock.proofs.Calls.{swap-keeps}
 
 module _ (d : Dock) (scans : List (List ℕ)) (s : Settled d scans) (map : List ℕ) where
   -- The map is replaced, and if no handover is open, one is opened and the contact history dropped.
@@ -33,7 +33,7 @@ module _ (d : Dock) (scans : List (List ℕ)) (s : Settled d scans) (map : List 
     unfolding remapped opened countedAll
     remapped-ready =
         let r = s .ready in
-        by-cases (λ (e : Dock). IsReady e []) (d .handover) (withMap d map) (opened d map)
+        by-cases (λ (e : Dock). IsReady e []) (d .rest .handover) (withMap d map) (opened d map)
         (λ begun. record {
           long = long;
           entries = entries;
@@ -42,7 +42,7 @@ module _ (d : Dock) (scans : List (List ℕ)) (s : Settled d scans) (map : List 
           outside = r .outside;
           repeats = r .repeats;
           seen = r .seen ∙ ap (countedAll unseen) (r .anew begun);
-          agree = λ shut. never (d .handover) begun shut;
+          agree = λ shut. never (d .rest .handover) begun shut;
           anew = λ h. refl;
         })
         (λ shut. record {
@@ -76,17 +76,9 @@ module _ (d : Dock) (t : Terminal) (map : List ℕ) (f : Follows d t) where
   remapped-follows : Follows (remapped d map) t
   unfolding remapped opened
   remapped-follows =
-      picked (λ (e : Dock). Follows e t) (d .handover) (withMap d map) (opened d map)
+      picked (λ (e : Dock). Follows e t) (d .rest .handover) (withMap d map) (opened d map)
       f
       (record { chosen = f .chosen; firm = f .firm; told = record { told = f .told .told } })
 
-  pub swap-follows : inRange d ≡ true → Follows (swapOf d map .dock) t
-  unfolding swapOf swapped
-  swap-follows range =
-      let Fine : Answered → Type 0 = λ (a : Answered). Follows (a .dock) t in
-      rw range
-      (picked Fine (eqb (length map) 144) _ _
-      (picked Fine (allUpTo lastKey map) _ _
-      (picked Fine (hasDouble map) (answered MapDouble d) (answered Accepted (swapped d map)) f (closing-follows (remapped d map) t remapped-follows))
-      f)
-      f)
+  pub swap-follows : Follows (swapOf d map .dock) t
+  swap-follows = swap-keeps (λ (e : Dock). Follows e t) (λ e g. closing-follows e t g) d f map (λ good. remapped-follows)

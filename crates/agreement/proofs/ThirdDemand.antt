@@ -24,6 +24,7 @@ use Rattle.agreement.proofs.Taken.{nothing-is-quiet}
 use Rattle.agreement.proofs.AnyCalls.{Sound, woken-sound, begun-sound, any-sound, InStep, any-in-step}
 use Rattle.agreement.proofs.Ending.{quiet-empty, quiet-shut}
 use Rattle.keys.specs.Named.{pauseKey}
+use Rattle.record.specs.Views.{keysOf}
 
 one-or-two : (n : ℕ) → between 1 2 n ≡ true → (n ≡ 1) ⊎ (n ≡ 2)
 one-or-two zero e = never false e refl
@@ -47,14 +48,14 @@ begin-in-step w s e =
     let idle = eqb-true (o .waiting) 0 (left-of-both (eqb (o .waiting) 0) set-fine last) in
     let silent = sym (nothing-is-quiet d (s .range)) ∙ left-of-both (nothingWaits ours d) (both none rest) e in
     let shut = quiet-shut d (o .scans) (s .settled) silent in
-    let flags = zeros-by-place (d .keys .held)
+    let flags = zeros-by-place (d .held)
     (none-held d (o .scans) (s .settled .ready) shut (rw (k .0) (left-of-both none rest behind)))
     ∙ ap (λ (n : ℕ). replicate n 0) (s .settled .ready .places .flags) in
     record {
       follows = record {
         chosen = rw (k .3) (one-or-two (o .set) (right-of-both (eqb (o .waiting) 0) set-fine last));
         firm = λ f. omega (arith, k .2);
-        told = empty-told (d .mode .set) begun (d .keys) (quiet-empty d silent)
+        told = empty-told (d .rest .mode .set) begun (keysOf d) (quiet-empty d silent)
             (sym (ap (λ (l : List ℕ). terminal 0 (set l pauseKey 0)) flags));
       };
       same = k .3;
@@ -72,8 +73,8 @@ third-demand earlier calls p key low high other =
     let follows = any-in-step calls start begins (p .calm) (begin-in-step before reached (p .begins)) .follows in
     let d = end .dock in
     let silent = sym (nothing-is-quiet d (sound .range)) ∙ p .nothing in
-    let read = told-empty (d .mode .set) (end .terminal) (d .keys) (quiet-empty d silent) (follows .told) in
-    let flag = ap (λ (t : Terminal). getD (t .down) key 0) read ∙ getD-set-other (d .keys .held) pauseKey key 0 0 other in
+    let read = told-empty (d .rest .mode .set) (end .terminal) (keysOf d) (quiet-empty d silent) (follows .told) in
+    let flag = ap (λ (t : Terminal). getD (t .down) key 0) read ∙ getD-set-other (d .held) pauseKey key 0 0 other in
     ap (λ (n : ℕ). not (eqb n 0)) flag
     ∙ held-is-said d (end .onlooker .scans) (sound .settled .ready) (quiet-shut d (end .onlooker .scans) (sound .settled) silent) key low
     ∙ ap (λ (map : List ℕ). saysHeld map (end .onlooker .scans) key) (sound .knows .0)

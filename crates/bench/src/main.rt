@@ -14,7 +14,7 @@ ghost use mathlib.Core.Path.{_≡_};
 ghost use mathlib.Core.Bool.{true};
 ghost use Prim.Native.Nat.{_≤_};
 ghost use lib.ListN.{length};
-ghost use Rattle.record.specs.Apart.{dockWith};
+ghost use Rattle.record.specs.Parts.{dockWith};
 ghost use Rattle.range.specs.Range.{inRange};
 
 // What is left of a text after its whole lines were run: the dock, the characters used, and the characters to be printed.
@@ -79,14 +79,12 @@ fn run(dock: Dock, text: &[u8], out: &mut [u8]) -> Ran
     requires { ⌜ (inRange dock ≡ true) × (length (now text) ≤ 16384) × (length (now out) ≡ 65536) ⌝ }
     ensures { λ r. ⌜ (r .used ≤ length (now (text .entry))) × (r .written ≤ 65536) × (inRange (r .dock) ≡ true) ⌝ }
 {
-    let contacts = dock.contacts;
-    let keys = dock.keys;
     let mut map = dock.map;
-    let mut closed = contacts.closed;
-    let mut counts = contacts.counts;
-    let mut held = keys.held;
+    let mut closed = dock.closed;
+    let mut counts = dock.counts;
+    let mut held = dock.held;
     let mut types = dock.types;
-    let rest = record::apart::rest_of(dock);
+    let rest = dock.rest;
     let ran = run_in_place(
         &mut map,
         &mut closed,
@@ -99,7 +97,14 @@ fn run(dock: Dock, text: &[u8], out: &mut [u8]) -> Ran
     );
     let after = ran.rest;
     Ran {
-        dock: record::apart::dock_with(map, closed, counts, held, types, after),
+        dock: Dock {
+            map,
+            closed,
+            counts,
+            held,
+            types,
+            rest: after,
+        },
         used: ran.used,
         written: ran.written,
     }

@@ -7,8 +7,6 @@ use dock::Given;
 use dock::Taken;
 use range::in_range;
 use record::Dock;
-use record::apart::dock_with;
-use record::apart::rest_of;
 use scan::scan_in_place;
 use swap::swap_in_place;
 use wire::frame::frame_in_place;
@@ -30,14 +28,12 @@ pub fn scan(dock: Dock, scan: &[u8]) -> Answered
             dock,
         };
     }
-    let contacts = dock.contacts;
-    let keys = dock.keys;
     let map = dock.map;
-    let mut closed = contacts.closed;
-    let mut counts = contacts.counts;
-    let mut held = keys.held;
+    let mut closed = dock.closed;
+    let mut counts = dock.counts;
+    let mut held = dock.held;
     let types = dock.types;
-    let rest = rest_of(dock);
+    let rest = dock.rest;
     let answered = scan_in_place(
         &map,
         &mut closed,
@@ -51,7 +47,14 @@ pub fn scan(dock: Dock, scan: &[u8]) -> Answered
     let after = answered.rest;
     Answered {
         answer,
-        dock: dock_with(map, closed, counts, held, types, after),
+        dock: Dock {
+            map,
+            closed,
+            counts,
+            held,
+            types,
+            rest: after,
+        },
     }
 }
 
@@ -65,20 +68,25 @@ pub fn read(dock: Dock) -> Taken
             dock,
         };
     }
-    let contacts = dock.contacts;
-    let keys = dock.keys;
     let map = dock.map;
-    let closed = contacts.closed;
-    let counts = contacts.counts;
-    let mut held = keys.held;
+    let closed = dock.closed;
+    let counts = dock.counts;
+    let mut held = dock.held;
     let types = dock.types;
-    let rest = rest_of(dock);
+    let rest = dock.rest;
     let answered = read_in_place(&mut held, &types, rest);
     let given = answered.given;
     let after = answered.rest;
     Taken {
         given,
-        dock: dock_with(map, closed, counts, held, types, after),
+        dock: Dock {
+            map,
+            closed,
+            counts,
+            held,
+            types,
+            rest: after,
+        },
     }
 }
 
@@ -92,14 +100,12 @@ pub fn swap(dock: Dock, new: &[u8]) -> Answered
             dock,
         };
     }
-    let contacts = dock.contacts;
-    let keys = dock.keys;
     let mut map = dock.map;
-    let mut closed = contacts.closed;
-    let mut counts = contacts.counts;
-    let mut held = keys.held;
+    let mut closed = dock.closed;
+    let mut counts = dock.counts;
+    let mut held = dock.held;
     let types = dock.types;
-    let rest = rest_of(dock);
+    let rest = dock.rest;
     let answered = swap_in_place(
         &mut map,
         &mut closed,
@@ -113,7 +119,14 @@ pub fn swap(dock: Dock, new: &[u8]) -> Answered
     let after = answered.rest;
     Answered {
         answer,
-        dock: dock_with(map, closed, counts, held, types, after),
+        dock: Dock {
+            map,
+            closed,
+            counts,
+            held,
+            types,
+            rest: after,
+        },
     }
 }
 
@@ -127,14 +140,12 @@ pub fn frame(dock: Dock, number: u32) -> Answered
             dock,
         };
     }
-    let contacts = dock.contacts;
-    let keys = dock.keys;
     let map = dock.map;
-    let mut closed = contacts.closed;
-    let mut counts = contacts.counts;
-    let mut held = keys.held;
+    let mut closed = dock.closed;
+    let mut counts = dock.counts;
+    let mut held = dock.held;
     let mut types = dock.types;
-    let rest = rest_of(dock);
+    let rest = dock.rest;
     let answered = frame_in_place(
         &mut closed,
         &mut counts,
@@ -147,6 +158,13 @@ pub fn frame(dock: Dock, number: u32) -> Answered
     let after = answered.rest;
     Answered {
         answer,
-        dock: dock_with(map, closed, counts, held, types, after),
+        dock: Dock {
+            map,
+            closed,
+            counts,
+            held,
+            types,
+            rest: after,
+        },
     }
 }

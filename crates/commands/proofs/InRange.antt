@@ -15,14 +15,11 @@ use Rattle.queue.proofs.Meaning.{tidy-queueOf}
 use Rattle.replies.proofs.ReplyMeaning.{tidy-repliesOf}
 use Rattle.record.specs.declared.Dock.{Dock}
 use Rattle.record.specs.Power.{defaultTypes, defaultRate}
+use Rattle.record.specs.Views.{keysOf}
 use Rattle.range.specs.Range.{takesValue, goodWaiting, inRange}
-use Rattle.range.proofs.Ranges.{good-mode, good-mode-set, good-mode-rate, good-mode-indicators, good-keys-with-queue, good-keys-with-repeat}
-use Rattle.range.proofs.Ranges.{in-range-map, in-range-keys, in-range-mode, in-range-replies}
-use Rattle.range.proofs.Ranges.{in-range-with-keys, in-range-with-types, in-range-with-mode}
-use Rattle.range.proofs.Ranges.{in-range-with-replies, in-range-with-waiting, in-range-with-scanning}
+use Rattle.range.proofs.Ranges.{good-mode, good-mode-set, good-mode-rate, good-mode-indicators, good-keys-with-queue, good-keys-with-repeat, in-range-map, in-range-keys, in-range-mode, in-range-replies, in-range-with-keys, in-range-with-types, in-range-with-mode, in-range-with-replies, in-range-with-waiting, in-range-with-scanning}
 use Rattle.range.proofs.PowerOn.{fresh-in-range}
-use Rattle.commands.specs.Commands.{replying, cleared, unrepeated, quietened, withSet, withRate}
-use Rattle.commands.specs.Commands.{defaulted, typed, restarted, obeyed, replyTo, commanded}
+use Rattle.commands.specs.Commands.{replying, cleared, unrepeated, quietened, withSet, withRate, defaulted, typed, restarted, obeyed, replyTo, commanded}
 use Rattle.commands.proofs.Ladder.{by-command}
 
 abbrev Short : List ℕ → Type 0
@@ -50,24 +47,24 @@ module _ (d : Dock) (h : inRange d ≡ true) where
   replying-in-range bytes few = in-range-with-replies d h (repliesOf bytes) (tidy-repliesOf bytes few)
 
   cleared-in-range : inRange (cleared d) ≡ true
-  cleared-in-range = in-range-with-keys d h _ (good-keys-with-queue (d .keys) (in-range-keys d h) (queueOf []) (tidy-queueOf [] (omega arith)))
+  cleared-in-range = in-range-with-keys d h _ (good-keys-with-queue (keysOf d) (in-range-keys d h) (queueOf []) (tidy-queueOf [] (omega arith)))
 
   unrepeated-in-range : inRange (unrepeated d) ≡ true
-  unrepeated-in-range = in-range-with-keys d h _ (good-keys-with-repeat (d .keys) (in-range-keys d h) 0 0 (omega arith) (omega arith))
+  unrepeated-in-range = in-range-with-keys d h _ (good-keys-with-repeat (keysOf d) (in-range-keys d h) 0 0 (omega arith) (omega arith))
 
   pub set-in-range : (set : ℕ) → 1 ≤ set → set ≤ 3 → inRange (withSet set d) ≡ true
   set-in-range set a b =
       let g = in-range-mode d h in
-      in-range-with-mode d h _ (good-mode _ a b (good-mode-rate (d .mode) g) (good-mode-indicators (d .mode) g))
+      in-range-with-mode d h _ (good-mode _ a b (good-mode-rate (d .rest .mode) g) (good-mode-indicators (d .rest .mode) g))
 
   pub rate-in-range : (rate : ℕ) → rate ≤ 127 → inRange (withRate rate d) ≡ true
   rate-in-range rate a =
       let g = in-range-mode d h in
       in-range-with-mode d h _
-      (good-mode _ (good-mode-set (d .mode) g .0) (good-mode-set (d .mode) g .1) a (good-mode-indicators (d .mode) g))
+      (good-mode _ (good-mode-set (d .rest .mode) g .0) (good-mode-set (d .rest .mode) g .1) a (good-mode-indicators (d .rest .mode) g))
 
   restarted-in-range : inRange (restarted d) ≡ true
-  restarted-in-range = fresh-in-range (d .map) (d .replies) (in-range-map d h) (in-range-replies d h)
+  restarted-in-range = fresh-in-range (d .map) (d .rest .replies) (in-range-map d h) (in-range-replies d h)
 
 module _ (d : Dock) (h : inRange d ≡ true) where
   quietened-in-range : inRange (quietened d) ≡ true

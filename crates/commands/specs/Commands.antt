@@ -9,7 +9,8 @@ use Rattle.keys.specs.Keys.{lastKey}
 use Rattle.queue.specs.Queues.{queueOf}
 use Rattle.replies.specs.Replies.{repliesOf}
 use Rattle.record.specs.declared.Dock.{Dock}
-use Rattle.record.specs.Parts.{withKeys, withTypes, withMode, withReplies, withScanning, withWaiting, withQueue, withRepeat}
+use Rattle.record.specs.Views.{withQueue, keysOf, withRepeat}
+use Rattle.record.specs.Parts.{withReplies, withKeys, withMode, withScanning, withTypes, withWaiting}
 use Rattle.record.specs.Power.{freshWith, defaultTypes, defaultRate}
 use Rattle.range.specs.Range.{takesValue}
 
@@ -19,10 +20,10 @@ replying bytes d = withReplies d (repliesOf bytes)
 
 -- No key byte waits; no key repeats.
 abbrev pub cleared : Dock → Dock
-cleared d = withKeys d (withQueue (d .keys) (queueOf []))
+cleared d = withKeys d (withQueue (keysOf d) (queueOf []))
 
 abbrev pub unrepeated : Dock → Dock
-unrepeated d = withKeys d (withRepeat (d .keys) 0 0)
+unrepeated d = withKeys d (withRepeat (keysOf d) 0 0)
 
 -- Both: nothing queued, nothing repeating.
 abbrev pub quietened : Dock → Dock
@@ -30,10 +31,10 @@ quietened d = unrepeated (cleared d)
 
 -- A part of the mode replaced.
 abbrev pub withSet : ℕ → Dock → Dock
-withSet set d = withMode d (record { set = set; rate = d .mode .rate; indicators = d .mode .indicators })
+withSet set d = withMode d (record { set = set; rate = d .rest .mode .rate; indicators = d .rest .mode .indicators })
 
 abbrev pub withRate : ℕ → Dock → Dock
-withRate rate d = withMode d (record { set = d .mode .set; rate = rate; indicators = d .mode .indicators })
+withRate rate d = withMode d (record { set = d .rest .mode .set; rate = rate; indicators = d .rest .mode .indicators })
 
 -- F0, until the set is given: nothing queued, nothing repeating, the default rate.
 abbrev pub readied : Dock → Dock
@@ -56,7 +57,7 @@ typed type d = withTypes (cleared d) (replicate (suc lastKey) type)
 
 -- FF: as at power-on, but for the map. The replies are replaced when the command is answered.
 abbrev pub restarted : Dock → Dock
-restarted d = freshWith (d .map) (d .replies)
+restarted d = freshWith (d .map) (d .rest .replies)
 
 -- What a command does at once. FB to FD clear, and give the type with their value.
 unfoldable pub obeyed : ℕ → Dock → Dock

@@ -9,7 +9,7 @@ use record::Held;
 use record::Rest;
 use record::Types;
 use record::power::DEFAULT_RATE;
-ghost use Rattle.record.specs.Apart.{RestAfter, TypesAfter, ArraysAfter};
+ghost use Rattle.record.specs.InPlace.{RestAfter, TypesAfter, ArraysAfter};
 ghost use Rattle.commands.specs.Commands.{cleared, quietened, readied, enabled, defaulted, disabled, typed, restarted, obeyed, commanded};
 
 // No key byte waits.

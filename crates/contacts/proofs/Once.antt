@@ -3,8 +3,7 @@ use Prim.Native.Nat.{ℕ}
 use mathlib.Core.Path.{_≡_, ap}
 use mathlib.Core.List.{List}
 use Rattle.basics.proofs.Once.{one-answer}
-use Rattle.contacts.specs.declared.Contacts.{Contacts}
-use Rattle.contacts.specs.Counts.{contacts}
+use Rattle.contacts.specs.Counts.{Contacts, contacts}
 
 pub contacts-once : {stated : Contacts} (closed closed′ counts counts′ : List ℕ)
     → contacts closed counts ≡ stated → contacts closed′ counts′ ≡ stated → (closed ≡ closed′) × (counts ≡ counts′)

@@ -14,9 +14,8 @@ use Rattle.basics.proofs.Flags.{left-of-both, right-of-both}
 use Rattle.basics.proofs.Limits.{up-to-at}
 use Rattle.basics.proofs.Maps.{mapFrom-is}
 use Rattle.basics.proofs.Sameness.{same-is}
-use Rattle.contacts.specs.declared.Contacts.{Contacts}
+use Rattle.contacts.specs.Counts.{Contacts, nextCount, nextClosed, packed, countAt, closedAt, countedOf, atRest, renewed, columnCounts, columnClosed}
 use Rattle.contacts.specs.Scans.{contactIn, contact}
-use Rattle.contacts.specs.Counts.{nextCount, nextClosed, packed, countAt, closedAt, countedOf, atRest, renewed, columnCounts, columnClosed}
 use Rattle.contacts.proofs.Pointwise.{contact-at}
 use Rattle.contacts.proofs.Bytes.{packed-rows, packed-same}
 use Rattle.contacts.proofs.Renewals.{renewed-later, renewed-next, renewed-join, renewed-all}

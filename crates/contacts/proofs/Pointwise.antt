@@ -9,9 +9,8 @@ use lib.Dec.{eqb, ltb}
 use lib.ListN.{length, getD}
 use Rattle.basics.specs.Choice.{pick}
 use Rattle.basics.proofs.Maps.{length-mapFrom, getD-mapFrom}
-use Rattle.contacts.specs.declared.Contacts.{Contacts}
+use Rattle.contacts.specs.Counts.{Contacts, nextCount, nextClosed, packed, countAt, closedAt, countedOf}
 use Rattle.contacts.specs.Scans.{contactIn, contact}
-use Rattle.contacts.specs.Counts.{nextCount, nextClosed, packed, countAt, closedAt, countedOf}
 use Rattle.contacts.proofs.Bytes.{packed-row}
 
 -- A contact is 0 or 1.

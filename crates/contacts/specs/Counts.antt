@@ -7,8 +7,12 @@ use lib.Dec.{ltb, eqb}
 use lib.ListN.{getD, set, replicate}
 use Rattle.basics.specs.Choice.{pick, both}
 use Rattle.basics.specs.Lists.{mapFrom, allUpTo, same}
-use Rattle.contacts.specs.declared.Contacts.{Contacts}
 use Rattle.contacts.specs.Scans.{contactIn, contact}
+
+-- The contacts as they count, laid out as a scan, and the counted scans in a row that showed each otherwise; what is over 2 counts as 2.
+pub record Contacts : Type 0 where
+  pub closed : List ℕ
+  pub counts : List ℕ
 
 -- Contacts by their two parts.
 abbrev pub contacts : List ℕ → List ℕ → Contacts

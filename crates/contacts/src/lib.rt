@@ -5,18 +5,11 @@ ghost use lib.ListN.{length};
 ghost use Rattle.basics.specs.Lists.{allUpTo, same};
 ghost use Rattle.contacts.specs.Counts.{contacts, nextCount, nextClosed, renewed, columnCounts, columnClosed, atRest, countedOf};
 
-// A byte for each column, and one for each position.
+// The contacts as they count, laid out as a scan: bit r of column c is the contact at position 8 c + r.
 pub type Columns = [u8; 18];
 
+// For each position the counted scans in a row that showed it otherwise; what is over 2 counts as 2.
 pub type Counts = [u8; 144];
-
-// The contacts as they count.
-pub struct Contacts {
-    // Laid out as a scan: bit r of column c is the contact at position 8 c + r.
-    pub closed: Columns,
-    // For each position the counted scans in a row that showed it otherwise; what is over 2 counts as 2.
-    pub counts: Counts,
-}
 
 // So many counted scans in a row against a contact, and the next one turns it.
 const ALL_BUT_THE_LAST: u8 = 2;

@@ -1,3 +1,4 @@
+pub mod Calls
 pub mod InRange
 pub mod Handing
 pub mod Scanning

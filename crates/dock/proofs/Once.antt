@@ -4,13 +4,13 @@ use mathlib.Core.Path.{_≡_, ap}
 use mathlib.Core.Bool.{true}
 use mathlib.Core.List.{List, []}
 use Rattle.basics.proofs.Once.{one-answer}
-use Rattle.contacts.specs.Counts.{contacts}
 use Rattle.record.specs.declared.Dock.{Dock}
 use Rattle.record.specs.declared.Rest.{Rest}
-use Rattle.record.specs.Apart.{dockWith}
+use Rattle.record.specs.Parts.{dockWith}
+use Rattle.record.specs.InPlace.{HeldAfter}
 use Rattle.record.proofs.Once.{parts-once}
-use Rattle.range.specs.Range.{inRange}
-use Rattle.range.proofs.Ranges.{in-range-with-contacts}
+use Rattle.range.specs.Range.{goodRest, inRange}
+use Rattle.range.proofs.Ranges.{alone-in-range}
 use Rattle.dock.specs.declared.Answer.{Answer}
 use Rattle.dock.specs.declared.Answered.{Answered}
 use Rattle.dock.specs.declared.AnsweredRest.{AnsweredRest}
@@ -18,7 +18,6 @@ use Rattle.dock.specs.declared.Given.{Given}
 use Rattle.dock.specs.declared.Taken.{Taken}
 use Rattle.dock.specs.declared.TakenRest.{TakenRest}
 use Rattle.dock.specs.Answers.{answeredWith, takenWith}
-use Rattle.dock.specs.Closing.{restInRange, HeldAfter}
 
 -- `HeldAfter`: the flags of held keys are lent.
 pub held-after-once : (f : Dock → Dock) (lent types : List ℕ) (before : Rest) (held held′ : List ℕ) (rest rest′ : Rest)
@@ -49,12 +48,8 @@ taken-once map closed counts held types map′ closed′ counts′ held′ types
 
 -- The conditional ones promise this for every map with which the record is in its range. What they ask for says that it is so with an
 -- empty one,
-with-no-map : (closed counts held types : List ℕ) (rest : Rest) → restInRange held types rest ≡ true
-    → inRange (dockWith [] closed counts held types rest) ≡ true
-with-no-map closed counts held types rest known = in-range-with-contacts (dockWith [] [] [] held types rest) known (contacts closed counts)
-
 -- so that there is no second answer either: of the frame call, which is lent all arrays but the map,
-module _ (call : Dock → Answered) (closed counts held types : List ℕ) (rest : Rest) (known : restInRange held types rest ≡ true) where
+module _ (call : Dock → Answered) (closed counts held types : List ℕ) (rest : Rest) (known : goodRest rest ≡ true) where
   abbrev FrameAfter : List ℕ → List ℕ → List ℕ → List ℕ → AnsweredRest → Type 0
   FrameAfter c n h t r =
       (map : List ℕ) → inRange (dockWith map closed counts held types rest) ≡ true
@@ -63,12 +58,12 @@ module _ (call : Dock → Answered) (closed counts held types : List ℕ) (rest 
   pub frame-after-once : (c n h t c′ n′ h′ t′ : List ℕ) (r r′ : AnsweredRest) → FrameAfter c n h t r → FrameAfter c′ n′ h′ t′ r′
       → (c ≡ c′) × (n ≡ n′) × (h ≡ h′) × (t ≡ t′) × (r ≡ r′)
   frame-after-once c n h t c′ n′ h′ t′ r r′ p q =
-      let here = with-no-map closed counts held types rest known in
+      let here = alone-in-range rest known closed counts held types in
       let same = answered-once [] c n h t [] c′ n′ h′ t′ r r′ (p [] here) (q [] here) in
       (same .1, same .2, same .3, same .4, same .5)
 
 -- and of the read call, which is lent the flags of held keys.
-module _ (call : Dock → Taken) (held types : List ℕ) (rest : Rest) (known : restInRange held types rest ≡ true) where
+module _ (call : Dock → Taken) (held types : List ℕ) (rest : Rest) (known : goodRest rest ≡ true) where
   abbrev ReadAfter : List ℕ → TakenRest → Type 0
   ReadAfter h r =
       (map closed counts : List ℕ) → inRange (dockWith map closed counts held types rest) ≡ true
@@ -76,5 +71,6 @@ module _ (call : Dock → Taken) (held types : List ℕ) (rest : Rest) (known : 
 
   pub read-after-once : (h h′ : List ℕ) (r r′ : TakenRest) → ReadAfter h r → ReadAfter h′ r′ → (h ≡ h′) × (r ≡ r′)
   read-after-once h h′ r r′ p q =
-      let same = taken-once [] [] [] h types [] [] [] h′ types r r′ (p [] [] [] known) (q [] [] [] known) in
+      let here = alone-in-range rest known [] [] held types in
+      let same = taken-once [] [] [] h types [] [] [] h′ types r r′ (p [] [] [] here) (q [] [] [] here) in
       (same .3, same .5)

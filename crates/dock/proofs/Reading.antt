@@ -11,7 +11,8 @@ use Rattle.replies.specs.declared.Replies.{Replies}
 use Rattle.queue.specs.Queues.{waiting}
 use Rattle.replies.specs.Replies.{waitingReplies}
 use Rattle.record.specs.declared.Dock.{Dock}
-use Rattle.record.specs.Parts.{withKeys, withReplies, withQueue}
+use Rattle.record.specs.Views.{withQueue, keysOf}
+use Rattle.record.specs.Parts.{withReplies, withKeys}
 use Rattle.range.specs.Range.{inRange}
 use Rattle.dock.specs.declared.Given.the-variants.{Nothing, Reply, KeyByte, Refused}
 use Rattle.dock.specs.declared.Taken.{Taken}
@@ -35,13 +36,13 @@ oldest-reply-in-front r h = front (r .length) (r .bytes) h
 
 -- A byte was given.
 module _ (d : Dock) (byte : ℕ) (kept r : Dock) (i : r ≡ closing kept) where
-  pub reply-given : (rest : Replies) → byte ≡ oldestReply (d .replies) → rest ≡ repliesBehind (d .replies)
+  pub reply-given : (rest : Replies) → byte ≡ oldestReply (d .rest .replies) → rest ≡ repliesBehind (d .rest .replies)
       → kept ≡ remembering (withReplies d rest) byte → taken (Reply byte) r ≡ replyTaken d
   unfolding replyTaken
   reply-given rest b e k = rw (i, k, e, b)
 
-  pub key-byte-given : (rest : Queue) → byte ≡ oldest (d .keys .queue) → rest ≡ withoutOldest (d .keys .queue)
-      → kept ≡ remembering (withKeys d (withQueue (d .keys) rest)) byte → taken (KeyByte byte) r ≡ keyByteTaken d
+  pub key-byte-given : (rest : Queue) → byte ≡ oldest (d .rest .outgoing .queue) → rest ≡ withoutOldest (d .rest .outgoing .queue)
+      → kept ≡ remembering (withKeys d (withQueue (keysOf d) rest)) byte → taken (KeyByte byte) r ≡ keyByteTaken d
   unfolding keyByteTaken
   key-byte-given rest b e k = rw (i, k, e, b)
 
@@ -52,15 +53,15 @@ module _ (d : Dock) where
   read-bad-record f = rw f
 
   module _ (h : inRange d ≡ true) where
-    pub read-reply : (d .replies .length ≡ 0 → ⊥) → (r : Taken) → r ≡ replyTaken d → r ≡ readOf d
+    pub read-reply : (d .rest .replies .length ≡ 0 → ⊥) → (r : Taken) → r ≡ replyTaken d → r ≡ readOf d
     unfolding readOf read
-    read-reply n r i = simp (h, ne-eqb (d .replies .length) 0 n, i)
+    read-reply n r i = simp (h, ne-eqb (d .rest .replies .length) 0 n, i)
 
-    module _ (n : d .replies .length ≡ 0) where
-      pub read-key-byte : (d .keys .queue .length ≡ 0 → ⊥) → (r : Taken) → r ≡ keyByteTaken d → r ≡ readOf d
+    module _ (n : d .rest .replies .length ≡ 0) where
+      pub read-key-byte : (d .rest .outgoing .queue .length ≡ 0 → ⊥) → (r : Taken) → r ≡ keyByteTaken d → r ≡ readOf d
       unfolding readOf read
-      read-key-byte m r i = simp (h, eq-eqb (d .replies .length) 0 n, ne-eqb (d .keys .queue .length) 0 m, i)
+      read-key-byte m r i = simp (h, eq-eqb (d .rest .replies .length) 0 n, ne-eqb (d .rest .outgoing .queue .length) 0 m, i)
 
-      pub read-nothing : d .keys .queue .length ≡ 0 → (r : Dock) → r ≡ closing d → taken Nothing r ≡ readOf d
+      pub read-nothing : d .rest .outgoing .queue .length ≡ 0 → (r : Dock) → r ≡ closing d → taken Nothing r ≡ readOf d
       unfolding readOf read
-      read-nothing m r i = simp (h, eq-eqb (d .replies .length) 0 n, eq-eqb (d .keys .queue .length) 0 m, i)
+      read-nothing m r i = simp (h, eq-eqb (d .rest .replies .length) 0 n, eq-eqb (d .rest .outgoing .queue .length) 0 m, i)

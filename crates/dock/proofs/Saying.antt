@@ -58,7 +58,7 @@ module _ (d : Dock) where
   read-says =
       let Gives : Taken → List ℕ → Type 0 = λ (t : Taken) (values : List ℕ). takenSays t ≡ accepted values in
       two-by-cases (λ (t : Taken) (said : Said). takenSays t ≡ said) (inRange d) _ _ _ _
-      (λ fine. two-by-cases Gives (eqb (d .replies .length) 0) _ _ _ _
-      (λ silent. two-by-cases Gives (eqb (d .keys .queue .length) 0) _ _ _ _ (λ silent. refl) (λ waits. refl))
+      (λ fine. two-by-cases Gives (eqb (d .rest .replies .length) 0) _ _ _ _
+      (λ silent. two-by-cases Gives (eqb (d .rest .outgoing .queue .length) 0) _ _ _ _ (λ silent. refl) (λ waits. refl))
       (λ waits. refl))
       (λ bad. refl)

@@ -6,14 +6,13 @@ use Prim.Native.Nat.{ℕ}
 use borrow.Author.Tests.{eq-eqb, ne-eqb}
 use lib.Dec.{eqb}
 use lib.ListN.{length}
-use Rattle.contacts.specs.declared.Contacts.{Contacts}
+use Rattle.contacts.specs.Counts.{Contacts, countedOf}
 use Rattle.phantom.specs.Phantom.{isPhantom}
-use Rattle.contacts.specs.Counts.{countedOf}
 use Rattle.keying.specs.Moves.{turnsTo}
 use Rattle.keying.specs.Repeat.{ticked, repeated}
-use Rattle.record.specs.declared.Keys.{Keys}
+use Rattle.record.specs.Views.{Keys, contactsOf, keysOf}
+use Rattle.record.specs.Parts.{withKeys, withContacts}
 use Rattle.record.specs.declared.Dock.{Dock}
-use Rattle.record.specs.Parts.{withContacts, withKeys}
 use Rattle.range.specs.Range.{inRange}
 use Rattle.dock.specs.declared.Answer.the-variants.{Accepted, ScanLength, BadRecord}
 use Rattle.dock.specs.Answers.{answered}
@@ -21,19 +20,19 @@ use Rattle.dock.specs.Closing.{closing}
 use Rattle.dock.specs.Scan.{listening, counting, changed, quiet, repeating, heardScan, scanned, scanOf}
 
 -- Are scans listened to: the three tests, joined as the code joins them.
-pub joined-listening : (d : Dock) → (d .scanning && eqb (d .waiting) 0 && not (d .handover)) ≡ listening d
+pub joined-listening : (d : Dock) → (d .rest .scanning && eqb (d .rest .waiting) 0 && not (d .rest .handover)) ≡ listening d
 unfolding listening
-joined-listening d = and-assoc (d .scanning) (eqb (d .waiting) 0) (not (d .handover))
+joined-listening d = and-assoc (d .rest .scanning) (eqb (d .rest .waiting) 0) (not (d .rest .handover))
 
 -- A counted scan, part by part.
-pub counted-by-parts : (d : Dock) (scan : List ℕ) (after : Contacts) (keys : Keys) → after ≡ countedOf (d .contacts) scan
-    → keys ≡ turnsTo 144 (d .mode) (d .types) (d .map) (d .contacts .closed) (after .closed) (d .keys)
+pub counted-by-parts : (d : Dock) (scan : List ℕ) (after : Contacts) (keys : Keys) → after ≡ countedOf (contactsOf d) scan
+    → keys ≡ turnsTo 144 (d .rest .mode) (d .types) (d .map) (d .closed) (after .closed) (keysOf d)
     → withKeys (withContacts d after) keys ≡ counting d scan
 unfolding counting
 counted-by-parts d scan after keys e f = rw (f, e)
 
 -- The repeat, where neither a reply nor a key byte waits.
-pub repeated-when-quiet : (d : Dock) (keys : Keys) → keys ≡ repeated (d .keys) (d .mode) (d .types) (quiet d) → withKeys d keys ≡ repeating d
+pub repeated-when-quiet : (d : Dock) (keys : Keys) → keys ≡ repeated (keysOf d) (d .rest .mode) (d .types) (quiet d) → withKeys d keys ≡ repeating d
 unfolding repeating
 repeated-when-quiet d keys e = rw e
 
@@ -48,7 +47,7 @@ module _ (d : Dock) (scan : List ℕ) (phantom : Bool) (p : phantom ≡ isPhanto
   believed-is-counted f next e = rw (← p, f) e
 
 -- A scan that is listened to: the repeat follows its changes.
-pub heard-whole : (d : Dock) (scan : List ℕ) (next r : Dock) → next ≡ changed (withKeys d (ticked (d .keys))) scan → r ≡ repeating next
+pub heard-whole : (d : Dock) (scan : List ℕ) (next r : Dock) → next ≡ changed (withKeys d (ticked (keysOf d))) scan → r ≡ repeating next
     → r ≡ heardScan d scan
 unfolding heardScan
 heard-whole d scan next r e i = rw e at i

@@ -19,19 +19,19 @@ use Rattle.dock.specs.Swap.{opened, remapped, swapped, swapOf}
 
 -- The record with the map: a handover is open in it.
 module _ (d : Dock) (map : List ℕ) where
-  pub second-swap : d .handover ≡ true → withMap d map ≡ remapped d map
+  pub second-swap : d .rest .handover ≡ true → withMap d map ≡ remapped d map
   unfolding remapped
   second-swap t = rw t
 
-  pub first-swap : d .handover ≡ false → opened d map ≡ remapped d map
+  pub first-swap : d .rest .handover ≡ false → opened d map ≡ remapped d map
   unfolding remapped
   first-swap f = rw f
 
-  pub swap-opens : (next : Dock) → next ≡ remapped d map → next .handover ≡ true
+  pub swap-opens : (next : Dock) → next ≡ remapped d map → next .rest .handover ≡ true
   unfolding remapped opened
-  swap-opens next e = rw e (by (d .handover) refl)
+  swap-opens next e = rw e (by (d .rest .handover) refl)
     where
-      by : (b : Bool) → d .handover ≡ b → pick b (withMap d map) (opened d map) .handover ≡ true
+      by : (b : Bool) → d .rest .handover ≡ b → pick b (withMap d map) (opened d map) .rest .handover ≡ true
       by true t = t
       by false t = refl
 

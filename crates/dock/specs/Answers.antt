@@ -13,7 +13,7 @@ use Rattle.dock.specs.declared.Given.the-variants.{Nothing, Reply, KeyBy
 use Rattle.dock.specs.declared.Taken.{Taken}
 use Rattle.dock.specs.declared.AnsweredRest.{AnsweredRest}
 use Rattle.dock.specs.declared.TakenRest.{TakenRest}
-use Rattle.record.specs.Apart.{dockWith}
+use Rattle.record.specs.Parts.{dockWith}
 
 -- What each answer says: its number.
 abbrev pub answerSays : Answer → Said

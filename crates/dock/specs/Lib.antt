@@ -4,3 +4,4 @@ pub mod Scan
 pub mod Read
 pub mod Swap
 pub mod Frame
+pub mod Calls

@@ -10,7 +10,8 @@ use Rattle.replies.specs.declared.Replies.{Replies}
 use Rattle.queue.specs.Queues.{waiting, queueOf}
 use Rattle.replies.specs.Replies.{waitingReplies, repliesOf}
 use Rattle.record.specs.declared.Dock.{Dock}
-use Rattle.record.specs.Parts.{withKeys, withReplies, withGiven, withQueue}
+use Rattle.record.specs.Views.{withQueue, keysOf}
+use Rattle.record.specs.Parts.{withGiven, withReplies, withKeys}
 use Rattle.range.specs.Range.{inRange}
 use Rattle.dock.specs.declared.Given.the-variants.{Nothing, Reply, KeyByte, Refused}
 use Rattle.dock.specs.declared.Taken.{Taken}
@@ -33,25 +34,25 @@ repliesBehind r = repliesOf (drop 1 (waitingReplies r))
 
 -- A byte was given: what is sent again on FE is the last one that was not FE itself.
 unfoldable pub remembering : Dock → ℕ → Dock
-remembering d byte = withGiven d (pick (eqb byte 0xfe) (d .given) byte)
+remembering d byte = withGiven d (pick (eqb byte 0xfe) (d .rest .given) byte)
 
 -- The oldest reply is given.
 unfoldable pub replyTaken : Dock → Taken
 replyTaken d =
-    let byte = oldestReply (d .replies) in
-    taken (Reply byte) (closing (remembering (withReplies d (repliesBehind (d .replies))) byte))
+    let byte = oldestReply (d .rest .replies) in
+    taken (Reply byte) (closing (remembering (withReplies d (repliesBehind (d .rest .replies))) byte))
 
 -- The oldest key byte is given.
 unfoldable pub keyByteTaken : Dock → Taken
 keyByteTaken d =
-    let q = d .keys .queue in
-    taken (KeyByte (oldest q)) (closing (remembering (withKeys d (withQueue (d .keys) (withoutOldest q))) (oldest q)))
+    let q = d .rest .outgoing .queue in
+    taken (KeyByte (oldest q)) (closing (remembering (withKeys d (withQueue (keysOf d) (withoutOldest q))) (oldest q)))
 
 -- The oldest reply, else the oldest key byte, else nothing.
 unfoldable pub read : Dock → Taken
 read d =
-    pick (eqb (d .replies .length) 0)
-    (pick (eqb (d .keys .queue .length) 0) (taken Nothing (closing d)) (keyByteTaken d))
+    pick (eqb (d .rest .replies .length) 0)
+    (pick (eqb (d .rest .outgoing .queue .length) 0) (taken Nothing (closing d)) (keyByteTaken d))
     (replyTaken d)
 
 -- The read call: only a record out of its range is refused.
@@ -63,7 +64,7 @@ unfoldable pub readSaid : Dock → Said
 readSaid d =
     pick (inRange d)
     (accepted
-    (pick (eqb (d .replies .length) 0)
-    (pick (eqb (d .keys .queue .length) 0) [] (aKeyByte ∷ oldest (d .keys .queue) ∷ []))
-    (aReply ∷ oldestReply (d .replies) ∷ [])))
+    (pick (eqb (d .rest .replies .length) 0)
+    (pick (eqb (d .rest .outgoing .queue .length) 0) [] (aKeyByte ∷ oldest (d .rest .outgoing .queue) ∷ []))
+    (aReply ∷ oldestReply (d .rest .replies) ∷ [])))
     (refused 9)

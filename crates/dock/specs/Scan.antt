@@ -11,7 +11,8 @@ use Rattle.contacts.specs.Counts.{countedOf}
 use Rattle.keying.specs.Moves.{turnsTo}
 use Rattle.keying.specs.Repeat.{ticked, repeated}
 use Rattle.record.specs.declared.Dock.{Dock}
-use Rattle.record.specs.Parts.{withContacts, withKeys}
+use Rattle.record.specs.Views.{contactsOf, keysOf}
+use Rattle.record.specs.Parts.{withKeys, withContacts}
 use Rattle.range.specs.Range.{inRange}
 use Rattle.dock.specs.declared.Answer.the-variants.{Accepted, ScanLength, BadRecord}
 use Rattle.dock.specs.declared.Answered.{Answered}
@@ -20,7 +21,7 @@ use Rattle.dock.specs.Closing.{closing}
 
 -- Scans are listened to: scanning is on, no command waits for its value, no swap is unfinished.
 unfoldable pub listening : Dock → Bool
-listening d = both (d .scanning) (both (eqb (d .waiting) 0) (not (d .handover)))
+listening d = both (d .rest .scanning) (both (eqb (d .rest .waiting) 0) (not (d .rest .handover)))
 
 -- A scan is counted if the dock listens and the scan is not phantom.
 unfoldable pub isCounted : Dock → List ℕ → Bool
@@ -29,9 +30,9 @@ isCounted d scan = both (listening d) (not (isPhantom scan))
 -- A counted scan: the contacts, then the keys at those that turned, in the order of positions.
 unfoldable pub counting : Dock → List ℕ → Dock
 counting d scan =
-    let contacts = countedOf (d .contacts) scan in
+    let contacts = countedOf (contactsOf d) scan in
     withKeys (withContacts d contacts)
-    (turnsTo 144 (d .mode) (d .types) (d .map) (d .contacts .closed) (contacts .closed) (d .keys))
+    (turnsTo 144 (d .rest .mode) (d .types) (d .map) (d .closed) (contacts .closed) (keysOf d))
 
 -- What a scan changes: nothing if it is phantom.
 unfoldable pub changed : Dock → List ℕ → Dock
@@ -39,15 +40,15 @@ changed d scan = pick (isPhantom scan) d (counting d scan)
 
 -- Neither a reply nor a key byte waits.
 abbrev pub quiet : Dock → Bool
-quiet d = both (eqb (d .replies .length) 0) (eqb (d .keys .queue .length) 0)
+quiet d = both (eqb (d .rest .replies .length) 0) (eqb (d .rest .outgoing .queue .length) 0)
 
 -- The repeat, after the scan's changes.
 unfoldable pub repeating : Dock → Dock
-repeating d = withKeys d (repeated (d .keys) (d .mode) (d .types) (quiet d))
+repeating d = withKeys d (repeated (keysOf d) (d .rest .mode) (d .types) (quiet d))
 
 -- A scan that is listened to: one scan less to the next repeat, then its changes, then the repeat.
 unfoldable pub heardScan : Dock → List ℕ → Dock
-heardScan d scan = repeating (changed (withKeys d (ticked (d .keys))) scan)
+heardScan d scan = repeating (changed (withKeys d (ticked (keysOf d))) scan)
 
 -- What a scan does.
 unfoldable pub scanned : Dock → List ℕ → Dock

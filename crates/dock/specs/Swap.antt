@@ -10,7 +10,8 @@ use Rattle.basics.specs.Lists.{allUpTo}
 use Rattle.keys.specs.Keys.{lastKey}
 use Rattle.contacts.specs.Counts.{unseen}
 use Rattle.record.specs.declared.Dock.{Dock}
-use Rattle.record.specs.Parts.{withMap, withContacts, withKeys, withHandover, withRepeat}
+use Rattle.record.specs.Views.{withRepeat, keysOf}
+use Rattle.record.specs.Parts.{withHandover, withKeys, withContacts, withMap}
 use Rattle.range.specs.Range.{inRange}
 use Rattle.dock.specs.declared.Answer.the-variants.{Accepted, MapLength, MapEntry, MapDouble, BadRecord}
 use Rattle.dock.specs.declared.Answered.{Answered}
@@ -20,11 +21,11 @@ use Rattle.maps.specs.Maps.{hasDouble}
 
 -- A swap takes the map, drops contact history and the repeating key, and opens a handover.
 unfoldable pub opened : Dock → List ℕ → Dock
-opened d map = withHandover (withKeys (withContacts (withMap d map) unseen) (withRepeat (d .keys) 0 0)) true
+opened d map = withHandover (withKeys (withContacts (withMap d map) unseen) (withRepeat (keysOf d) 0 0)) true
 
 -- A second swap during a handover only replaces the map.
 unfoldable pub remapped : Dock → List ℕ → Dock
-remapped d map = pick (d .handover) (withMap d map) (opened d map)
+remapped d map = pick (d .rest .handover) (withMap d map) (opened d map)
 
 -- Either way the handover goes on at once.
 unfoldable pub swapped : Dock → List ℕ → Dock

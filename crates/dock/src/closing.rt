@@ -4,11 +4,13 @@ use record::Rest;
 use record::Types;
 ghost use mathlib.Core.Path.{_≡_};
 ghost use mathlib.Core.Bool.{true};
-ghost use Rattle.dock.specs.Closing.{closing, restInRange, HeldAfter};
+ghost use Rattle.record.specs.InPlace.{HeldAfter};
+ghost use Rattle.range.specs.Range.{goodRest};
+ghost use Rattle.dock.specs.Closing.{closing};
 
 // An open handover goes on: the flags of the held keys are lent. It is apart, so that calls do not pay for it while none is open.
 pub fn go_on(held: &mut Held, types: &Types, rest: Rest) -> Rest
-    requires { ⌜ (restInRange (now held) (now types) rest ≡ true) × (rest .handover ≡ true) ⌝ }
+    requires { ⌜ (goodRest rest ≡ true) × (rest .handover ≡ true) ⌝ }
     ensures { λ r. ⌜ HeldAfter closing (now (held .entry)) (now (types .entry)) rest (now (held .exit)) r ⌝ }
 {
     let outgoing = rest.outgoing;
@@ -23,7 +25,7 @@ pub fn go_on(held: &mut Held, types: &Types, rest: Rest) -> Rest
 
 // So an accepted call ends.
 pub fn close_in_place(held: &mut Held, types: &Types, rest: Rest) -> Rest
-    requires { ⌜ restInRange (now held) (now types) rest ≡ true ⌝ }
+    requires { ⌜ goodRest rest ≡ true ⌝ }
     ensures { λ r. ⌜ HeldAfter closing (now (held .entry)) (now (types .entry)) rest (now (held .exit)) r ⌝ }
 {
     if !rest.handover {

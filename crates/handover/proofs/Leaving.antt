@@ -13,13 +13,12 @@ use Rattle.codes.specs.declared.Sequence.{Sequence}
 use Rattle.codes.specs.Sequences.{holding}
 use Rattle.queue.specs.Queues.{waiting, contents, hasRoom}
 use Rattle.record.specs.declared.Mode.{Mode}
-use Rattle.record.specs.declared.Keys.{Keys}
+use Rattle.record.specs.Views.{Keys}
 use Rattle.range.specs.Range.{goodKeys}
 use Rattle.sending.specs.Sending.{sends}
 use Rattle.sending.proofs.Sent.{sequence-length}
-use Rattle.keying.specs.declared.Handed.{Handed}
+use Rattle.keying.specs.Handover.{Handed, canLeave, handedFrom, handedOver}
 use Rattle.keying.specs.Moves.{releasedWith, released}
-use Rattle.keying.specs.Handover.{canLeave, handedFrom, handedOver}
 use Rattle.keying.proofs.Good.{released-good}
 use Rattle.keying.proofs.Changes.{released-by-its-bytes}
 

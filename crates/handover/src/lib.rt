@@ -13,7 +13,7 @@ ghost use mathlib.Core.Path.{_≡_};
 ghost use mathlib.Core.Bool.{true};
 ghost use Prim.Native.Nat.{_≤_, _<_};
 ghost use Rattle.queue.specs.Queues.{contents};
-ghost use Rattle.record.specs.Apart.{keysWith};
+ghost use Rattle.record.specs.Views.{keysWith};
 ghost use Rattle.range.specs.Range.{goodKeys, goodMode};
 ghost use Rattle.keying.specs.Moves.{letGo, releasedWith};
 ghost use Rattle.keying.specs.Handover.{handedWith, handedOver};

@@ -6,9 +6,8 @@ use native.Mathlib.Nat.{zero-div}
 use native.Mathlib.Omega.{arith}
 use lib.Dec.{eqb}
 use lib.ListN.{length, getD, getD-replicate}
-use Rattle.contacts.specs.declared.Contacts.{Contacts}
+use Rattle.contacts.specs.Counts.{Contacts, unseen, nextCount, countedOf}
 use Rattle.contacts.specs.Scans.{contact}
-use Rattle.contacts.specs.Counts.{unseen, nextCount, countedOf}
 use Rattle.contacts.proofs.Pointwise.{contact-small, next-count-small, closed-length, counts-length, closed-pointwise, counts-pointwise}
 use Rattle.history.specs.Rows.{saysClosed}
 use Rattle.history.specs.Scans.{shownAt, countedAll}

@@ -5,9 +5,8 @@ use mathlib.Core.Bool.{Bool, false}
 use mathlib.Core.List.{List, [], _∷_, map}
 use lib.Dec.{eqb}
 use Rattle.basics.specs.Choice.{both, either}
-use Rattle.contacts.specs.declared.Contacts.{Contacts}
+use Rattle.contacts.specs.Counts.{Contacts, countedOf}
 use Rattle.contacts.specs.Scans.{contact}
-use Rattle.contacts.specs.Counts.{countedOf}
 use Rattle.history.specs.Rows.{saysClosed}
 
 -- What the scans showed of the contact at a position.

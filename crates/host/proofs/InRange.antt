@@ -11,8 +11,7 @@ use Rattle.basics.proofs.Flags.{left-of-both, right-of-both}
 use Rattle.lookup.specs.Lookup.{keyWith}
 use Rattle.record.specs.declared.Dock.{Dock}
 use Rattle.range.specs.Range.{inRange}
-use Rattle.range.proofs.Ranges.{good-mode, good-mode-set, good-mode-rate, in-range-mode}
-use Rattle.range.proofs.Ranges.{in-range-with-types, in-range-with-mode, in-range-with-waiting}
+use Rattle.range.proofs.Ranges.{good-mode, good-mode-set, good-mode-rate, in-range-mode, in-range-with-types, in-range-with-mode, in-range-with-waiting}
 use Rattle.commands.specs.Commands.{withSet, withRate}
 use Rattle.commands.proofs.InRange.{InRange, replying-in-range, set-in-range, rate-in-range, commanded-in-range}
 use Rattle.host.specs.Values.{withIndicators, withType, rightValue, valued, tookByte}
@@ -22,7 +21,7 @@ module _ (d : Dock) (h : inRange d ≡ true) where
   indicators-in-range : (indicators : ℕ) → indicators ≤ 7 → inRange (withIndicators indicators d) ≡ true
   indicators-in-range indicators a =
       let g = in-range-mode d h in
-      in-range-with-mode d h _ (good-mode _ (good-mode-set (d .mode) g .0) (good-mode-set (d .mode) g .1) (good-mode-rate (d .mode) g) a)
+      in-range-with-mode d h _ (good-mode _ (good-mode-set (d .rest .mode) g .0) (good-mode-set (d .rest .mode) g .1) (good-mode-rate (d .rest .mode) g) a)
 
   type-in-range : (key kind : ℕ) → inRange (withType key kind d) ≡ true
   type-in-range key kind = in-range-with-types d h _
@@ -45,8 +44,8 @@ module _ (d : Dock) (h : inRange d ≡ true) where
   pub took-in-range : (byte : ℕ) → inRange (tookByte byte d) ≡ true
   took-in-range byte =
       by-byte InRange byte d
-      (λ fe. replying-in-range d h (d .given ∷ []) (omega arith))
+      (λ fe. replying-in-range d h (d .rest .given ∷ []) (omega arith))
       (λ other high. commanded-in-range d h byte)
       (λ low right.
-      replying-in-range _ (in-range-with-waiting (valued (d .waiting) byte d) (valued-in-range (d .waiting) byte right) 0 refl) (0xfa ∷ []) (omega arith))
+      replying-in-range _ (in-range-with-waiting (valued (d .rest .waiting) byte d) (valued-in-range (d .rest .waiting) byte right) 0 refl) (0xfa ∷ []) (omega arith))
       (λ low wrong. replying-in-range d h (0xfe ∷ []) (omega arith))

@@ -14,20 +14,20 @@ use Rattle.host.specs.Values.{withIndicators, withType, rightValue, valu
 
 module _ (P : Dock → Type 0) (byte : ℕ) (d : Dock) where
   -- What the value of the command that waits does.
-  pub by-value : (d .waiting ≡ 0xed → P (withIndicators byte d)) → (d .waiting ≡ 0xf0 → P (withSet byte d)) → (d .waiting ≡ 0xf3 → P (withRate byte d))
-      → P (withType (keyWith 3 byte) (d .waiting - 0xfb) d) → P (valued (d .waiting) byte d)
+  pub by-value : (d .rest .waiting ≡ 0xed → P (withIndicators byte d)) → (d .rest .waiting ≡ 0xf0 → P (withSet byte d)) → (d .rest .waiting ≡ 0xf3 → P (withRate byte d))
+      → P (withType (keyWith 3 byte) (d .rest .waiting - 0xfb) d) → P (valued (d .rest .waiting) byte d)
   unfolding valued
   by-value lamps chosen rate type =
-      by-cases P (eqb (d .waiting) 0xed) _ _ (λ h. lamps (eqb-true (d .waiting) 0xed h))
-      (λ h. by-cases P (eqb (d .waiting) 0xf0) _ _ (λ h. chosen (eqb-true (d .waiting) 0xf0 h))
-      (λ h. by-cases P (eqb (d .waiting) 0xf3) _ _ (λ h. rate (eqb-true (d .waiting) 0xf3 h)) (λ h. type)))
+      by-cases P (eqb (d .rest .waiting) 0xed) _ _ (λ h. lamps (eqb-true (d .rest .waiting) 0xed h))
+      (λ h. by-cases P (eqb (d .rest .waiting) 0xf0) _ _ (λ h. chosen (eqb-true (d .rest .waiting) 0xf0 h))
+      (λ h. by-cases P (eqb (d .rest .waiting) 0xf3) _ _ (λ h. rate (eqb-true (d .rest .waiting) 0xf3 h)) (λ h. type)))
 
   -- FE, a command, a right value, or what is answered FE.
-  pub by-byte : (byte ≡ 0xfe → P (replying (d .given ∷ []) d)) → ((byte ≡ 0xfe → ⊥) → 0xed ≤ byte → P (commanded byte d))
-      → (byte < 0xed → rightValue (d .waiting) byte ≡ true → P (replying (0xfa ∷ []) (withWaiting (valued (d .waiting) byte d) 0)))
-      → (byte < 0xed → rightValue (d .waiting) byte ≡ false → P (replying (0xfe ∷ []) d)) → P (tookByte byte d)
+  pub by-byte : (byte ≡ 0xfe → P (replying (d .rest .given ∷ []) d)) → ((byte ≡ 0xfe → ⊥) → 0xed ≤ byte → P (commanded byte d))
+      → (byte < 0xed → rightValue (d .rest .waiting) byte ≡ true → P (replying (0xfa ∷ []) (withWaiting (valued (d .rest .waiting) byte d) 0)))
+      → (byte < 0xed → rightValue (d .rest .waiting) byte ≡ false → P (replying (0xfe ∷ []) d)) → P (tookByte byte d)
   unfolding tookByte tookValue
   by-byte again command right wrong =
-      by-cases P (eqb byte 0xfe) (replying (d .given ∷ []) d) _ (λ h. again (eqb-true byte 0xfe h))
+      by-cases P (eqb byte 0xfe) (replying (d .rest .given ∷ []) d) _ (λ h. again (eqb-true byte 0xfe h))
       (λ other. by-cases P (leb 0xed byte) (commanded byte d) _ (λ h. command (eqb-false byte 0xfe other) (leb-true 0xed byte h))
-      (λ low. by-cases P (rightValue (d .waiting) byte) _ _ (right (leb-false 0xed byte low)) (wrong (leb-false 0xed byte low))))
+      (λ low. by-cases P (rightValue (d .rest .waiting) byte) _ _ (right (leb-false 0xed byte low)) (wrong (leb-false 0xed byte low))))

@@ -44,18 +44,18 @@ module _ (command value : ℕ) where
           (leb-true 0xfb command (search (left-of-both, right-of-both)), leb-true command 0xfd (search (left-of-both, right-of-both)))
 
 -- A byte below ED.
-module _ (byte : ℕ) (d : Dock) (b : Bool) (e : b ≡ rightValue (d .waiting) byte) where
+module _ (byte : ℕ) (d : Dock) (b : Bool) (e : b ≡ rightValue (d .rest .waiting) byte) where
   pub value-wrong : b ≡ false → replying (0xfe ∷ []) d ≡ tookValue byte d
   unfolding tookValue
   value-wrong f = rw (← e, f)
 
-  pub value-right : b ≡ true → (new : Dock) → new ≡ valued (d .waiting) byte d → replying (0xfa ∷ []) (withWaiting new 0) ≡ tookValue byte d
+  pub value-right : b ≡ true → (new : Dock) → new ≡ valued (d .rest .waiting) byte d → replying (0xfa ∷ []) (withWaiting new 0) ≡ tookValue byte d
   unfolding tookValue
   value-right t new f = rw (← e, t, f)
 
 -- A byte.
 module _ (byte : ℕ) (d : Dock) where
-  pub took-resend : byte ≡ 0xfe → replying (d .given ∷ []) d ≡ tookByte byte d
+  pub took-resend : byte ≡ 0xfe → replying (d .rest .given ∷ []) d ≡ tookByte byte d
   unfolding tookByte
   took-resend e = rw e
 

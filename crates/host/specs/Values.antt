@@ -7,12 +7,12 @@ use lib.ListN.{set}
 use Rattle.basics.specs.Choice.{pick, both, between}
 use Rattle.lookup.specs.Lookup.{keyWith}
 use Rattle.record.specs.declared.Dock.{Dock}
-use Rattle.record.specs.Parts.{withTypes, withMode, withWaiting}
+use Rattle.record.specs.Parts.{withMode, withTypes, withWaiting}
 use Rattle.commands.specs.Commands.{replying, withSet, withRate, commanded}
 
 -- The indicators replaced, and the type of one key.
 abbrev pub withIndicators : ℕ → Dock → Dock
-withIndicators indicators d = withMode d (record { set = d .mode .set; rate = d .mode .rate; indicators = indicators })
+withIndicators indicators d = withMode d (record { set = d .rest .mode .set; rate = d .rest .mode .rate; indicators = indicators })
 
 abbrev pub withType : ℕ → ℕ → Dock → Dock
 withType key type d = withTypes d (set (d .types) key type)
@@ -36,12 +36,12 @@ valued command value d =
 -- A byte below ED: a value that the waiting command takes, or nothing that the dock knows.
 unfoldable pub tookValue : ℕ → Dock → Dock
 tookValue byte d =
-    pick (rightValue (d .waiting) byte)
-    (replying (0xfa ∷ []) (withWaiting (valued (d .waiting) byte d) 0))
+    pick (rightValue (d .rest .waiting) byte)
+    (replying (0xfa ∷ []) (withWaiting (valued (d .rest .waiting) byte d) 0))
     (replying (0xfe ∷ []) d)
 
 -- A host byte. FE has the last byte sent again and lets a command go on waiting.
 unfoldable pub tookByte : ℕ → Dock → Dock
 tookByte byte d =
-    pick (eqb byte 0xfe) (replying (d .given ∷ []) d)
+    pick (eqb byte 0xfe) (replying (d .rest .given ∷ []) d)
     (pick (leb 0xed byte) (commanded byte d) (tookValue byte d))

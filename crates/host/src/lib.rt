@@ -5,7 +5,7 @@ use record::Held;
 use record::Rest;
 use record::Types;
 ghost use mathlib.Core.List.{[], _∷_};
-ghost use Rattle.record.specs.Apart.{RestAfter, ArraysAfter};
+ghost use Rattle.record.specs.InPlace.{RestAfter, ArraysAfter};
 ghost use Rattle.commands.specs.Commands.{replying};
 ghost use Rattle.host.specs.Values.{tookByte};
 

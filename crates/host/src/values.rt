@@ -4,7 +4,7 @@ use record::Rest;
 use record::Types;
 ghost use mathlib.Core.Path.{_≡_};
 ghost use mathlib.Core.Bool.{true};
-ghost use Rattle.record.specs.Apart.{TypesAfter};
+ghost use Rattle.record.specs.InPlace.{TypesAfter};
 ghost use Rattle.host.specs.Values.{rightValue, valued, tookValue};
 
 // A value that a command takes: indicators, a set, a rate, or the set 3 code of a key. No other byte takes one.

@@ -12,8 +12,7 @@ use Rattle.codes.specs.Sequences.{holding}
 use Rattle.queue.specs.declared.Queue.{Queue}
 use Rattle.queue.specs.Queues.{contents}
 use Rattle.record.specs.declared.Mode.{Mode}
-use Rattle.record.specs.declared.Keys.{Keys}
-use Rattle.record.specs.Parts.{keys}
+use Rattle.record.specs.Views.{keys, Keys}
 use Rattle.sending.specs.Sending.{sends, queuedOf}
 use Rattle.sending.proofs.Sent.{sequence-is}
 use Rattle.keying.specs.declared.OutgoingRest.{OutgoingRest}

@@ -13,8 +13,7 @@ use Rattle.codes.specs.Sequences.{holding}
 use Rattle.queue.specs.declared.Queue.{Queue}
 use Rattle.queue.specs.Queues.{queueOf, contents}
 use Rattle.record.specs.declared.Mode.{Mode}
-use Rattle.record.specs.declared.Keys.{Keys}
-use Rattle.record.specs.Parts.{keys, withRepeat}
+use Rattle.record.specs.Views.{Keys, withRepeat, keys}
 use Rattle.sending.specs.Sending.{sends}
 use Rattle.sending.proofs.Sent.{sequence-is}
 use Rattle.keying.specs.Repeat.{intervalOf, ticked, isDue, repeated}

@@ -16,9 +16,9 @@ use Rattle.queue.specs.Queues.{tidy}
 use Rattle.queue.proofs.Meaning.{tidy-short, tidy-queueOf}
 use Rattle.queue.proofs.Range.{pushed-tidy}
 use Rattle.record.specs.declared.Mode.{Mode}
-use Rattle.record.specs.declared.Keys.{Keys}
+use Rattle.record.specs.Views.{Keys}
 use Rattle.range.specs.Range.{goodMode, goodKeys}
-use Rattle.range.proofs.Ranges.{good-mode-rate, good-keys, good-keys-queue, good-keys-repeating, good-keys-countdown, good-keys-with-repeat}
+use Rattle.range.proofs.Ranges.{good-mode-rate, good-outgoing, good-keys-queue, good-keys-repeating, good-keys-countdown, good-keys-with-repeat}
 use Rattle.sending.specs.Sending.{sends, queuedOf}
 use Rattle.sending.proofs.Sent.{sends-short}
 use Rattle.keying.specs.Repeat.{delayOf, intervalOf, ticked, isDue, repeated}
@@ -58,7 +58,7 @@ module _ (m : Mode) where
   pub released-good : (k : Keys) (type key : ℕ) → goodKeys k ≡ true → goodKeys (released k m type key) ≡ true
   unfolding released releasedWith
   released-good k type key g =
-      good-keys _
+      good-outgoing _
       (queued-tidy (k .queue) m (sends k m type key Release) (good-keys-queue k g))
       (picked (λ (n : ℕ). n ≤ lastKey) (eqb (k .repeating) key) 0 (k .repeating) (omega arith) (good-keys-repeating k g))
       (picked (λ (n : ℕ). n ≤ 240) (eqb (k .repeating) key) 0 (k .countdown) (omega arith) (good-keys-countdown k g))
@@ -71,7 +71,7 @@ module _ (m : Mode) where
     unfolding pressed
     pressed-good k type key l g =
         let may = mayRepeat (m .set) key type in
-        good-keys _
+        good-outgoing _
         (queued-tidy (k .queue) m (sends k m type key Press) (good-keys-queue k g))
         (picked (λ (n : ℕ). n ≤ lastKey) may key 0 l (omega arith))
         (picked (λ (n : ℕ). n ≤ 240) may (delayOf (m .rate)) 0 (delay-small (m .rate) (good-mode-rate m h)) (omega arith))
@@ -95,7 +95,7 @@ repeated-good k m types quiet g =
     let short = sends-short k m type (k .repeating) Repeat in
     picked InRange (isDue k) _ _
     (picked InRange (mayRepeat (m .set) (k .repeating) type) _ _
-    (good-keys _
+    (good-outgoing _
     (picked (λ (q : Queue). tidy q ≡ true) quiet _ _ (tidy-queueOf _ (omega (arith, short))) (good-keys-queue k g))
     (good-keys-repeating k g)
     (omega (arith, interval-small (m .rate))))

@@ -12,11 +12,10 @@ use Rattle.basics.proofs.Limits.{up-to-at}
 use Rattle.keys.specs.Keys.{lastKey}
 use Rattle.contacts.specs.Scans.{contact}
 use Rattle.record.specs.declared.Mode.{Mode}
-use Rattle.record.specs.declared.Keys.{Keys}
+use Rattle.record.specs.Views.{Keys}
 use Rattle.record.specs.Held.{isHeld}
-use Rattle.keying.specs.declared.Handed.{Handed}
+use Rattle.keying.specs.Handover.{Handed, canLeave, handedFrom}
 use Rattle.keying.specs.Moves.{pressed, released, moved, turned, turnsTo}
-use Rattle.keying.specs.Handover.{canLeave, handedFrom}
 
 module _ (P : Keys → Type 0) (m : Mode) (up : (k : Keys) (type key : ℕ) → P k → P (released k m type key)) where
   pub handed-keeps : (n key : ℕ) (k : Keys) (types : List ℕ) → P k → P (handedFrom n key k m types .keys)

@@ -5,13 +5,12 @@ use mathlib.Core.Path.{_≡_, ap}
 use mathlib.Core.Bool.{Bool}
 use mathlib.Core.List.{List}
 use Rattle.basics.proofs.Once.{one-answer}
-use Rattle.record.specs.declared.Keys.{Keys}
+use Rattle.record.specs.Views.{Keys}
 use Rattle.record.proofs.Once.{keys-once}
-use Rattle.keying.specs.declared.Handed.{Handed}
+use Rattle.keying.specs.Handover.{Handed, handedWith}
 use Rattle.keying.specs.declared.HandedRest.{HandedRest}
 use Rattle.keying.specs.declared.OutgoingRest.{OutgoingRest}
 use Rattle.keying.specs.Moves.{keysFrom}
-use Rattle.keying.specs.Handover.{handedWith}
 
 -- `keysFrom`.
 pub keys-from-once : {stated : Keys} (held held′ bytes bytes′ : List ℕ) (rest rest′ : OutgoingRest)

@@ -15,7 +15,7 @@ use Rattle.queue.specs.Queues.{waiting}
 use Rattle.queue.proofs.Meaning.{places-queueOf}
 use Rattle.queue.proofs.Room.{pushed-short}
 use Rattle.record.specs.declared.Mode.{Mode}
-use Rattle.record.specs.declared.Keys.{Keys}
+use Rattle.record.specs.Views.{Keys}
 use Rattle.sending.specs.Sending.{sends, queuedOf}
 use Rattle.sending.proofs.Sent.{sends-short}
 use Rattle.keying.specs.Repeat.{isDue, repeated}

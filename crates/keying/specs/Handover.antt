@@ -8,13 +8,16 @@ use Rattle.keys.specs.Keys.{lastKey}
 use Rattle.codes.specs.declared.Action.the-variants.{Release}
 use Rattle.queue.specs.Queues.{waiting, hasRoom}
 use Rattle.record.specs.declared.Mode.{Mode}
-use Rattle.record.specs.declared.Keys.{Keys}
-use Rattle.record.specs.Apart.{keysWith}
+use Rattle.record.specs.Views.{Keys, keysWith}
 use Rattle.record.specs.Held.{isHeld}
 use Rattle.sending.specs.Sending.{sends}
-use Rattle.keying.specs.declared.Handed.{Handed}
 use Rattle.keying.specs.declared.HandedRest.{HandedRest}
 use Rattle.keying.specs.Moves.{released}
+
+-- The keys after a handover went on, and whether it is still open.
+pub record Handed : Type 0 where
+  pub keys : Keys
+  pub unfinished : Bool
 
 -- The release of a key would fit into the queue.
 abbrev pub canLeave : Keys → Mode → List ℕ → ℕ → Bool

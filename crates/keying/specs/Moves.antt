@@ -10,8 +10,7 @@ use Rattle.contacts.specs.Scans.{contactIn, contact}
 use Rattle.queue.specs.declared.Queue.{Queue}
 use Rattle.queue.specs.Queues.{queueWith}
 use Rattle.record.specs.declared.Mode.{Mode}
-use Rattle.record.specs.declared.Keys.{Keys}
-use Rattle.record.specs.Parts.{keys}
+use Rattle.record.specs.Views.{keys, Keys}
 use Rattle.sending.specs.Sending.{sends, queuedOf}
 use Rattle.keying.specs.declared.OutgoingRest.{OutgoingRest}
 use Rattle.keying.specs.Repeat.{delayOf}

@@ -9,9 +9,8 @@ use Rattle.codes.specs.declared.Action.the-variants.{Repeat}
 use Rattle.codes.specs.Codes.{mayRepeat}
 use Rattle.queue.specs.Queues.{queueOf}
 use Rattle.record.specs.declared.Mode.{Mode}
-use Rattle.record.specs.declared.Keys.{Keys}
+use Rattle.record.specs.Views.{Keys, withRepeat, withQueue}
 use Rattle.record.specs.declared.Outgoing.{Outgoing}
-use Rattle.record.specs.Parts.{withQueue, withRepeat}
 use Rattle.sending.specs.Sending.{sends}
 
 -- The scans from a press to its first repeat: C + 1 quarters of a second, C being bits 6 and 5 of the rate.

@@ -1,16 +1,9 @@
 // Keys as the terminal is told of them (docs/RULES.md, sections 5, 6 and 8): pressed, released, repeated and handed over.
-use record::Keys;
 use record::Outgoing;
 
 pub mod repeating; // repeating.rt: the key that repeats
 
-// The keys after a handover went on, and whether it is still open. Definitions speak of it; functions give the next.
-pub struct Handed {
-    pub keys: Keys,
-    pub unfinished: bool,
-}
-
-// The same in place: the flags of the held keys were lent.
+// What goes out after a handover went on, and whether it is still open; the flags of the held keys were lent.
 pub struct HandedRest {
     pub outgoing: Outgoing,
     pub unfinished: bool,

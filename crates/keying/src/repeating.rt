@@ -8,7 +8,7 @@ use sending::bytes_of;
 ghost use mathlib.Core.Path.{_≡_};
 ghost use mathlib.Core.Bool.{true};
 ghost use Prim.Native.Nat.{_≤_};
-ghost use Rattle.record.specs.Apart.{keysWith};
+ghost use Rattle.record.specs.Views.{keysWith};
 ghost use Rattle.range.specs.Range.{goodKeys, goodMode};
 ghost use Rattle.keying.specs.Repeat.{delayOf, intervalOf, tickedOn, repeated};
 

@@ -7,7 +7,7 @@ use Rattle.basics.proofs.Cases.{picked}
 use Rattle.dock.proofs.Sizes.{Sizes, scan-sizes, read-sizes, swap-sizes, frame-sizes}
 use Rattle.record.specs.declared.Dock.{Dock}
 use Rattle.record.specs.declared.Rest.{Rest}
-use Rattle.record.specs.Apart.{dockWith}
+use Rattle.record.specs.Parts.{dockWith}
 use Rattle.range.specs.Range.{inRange}
 use Rattle.text.specs.declared.Kind.{Kind}
 use Rattle.text.specs.declared.Kind.the-variants.{Read, Frame, Scan, Map, Malformed}

@@ -17,7 +17,7 @@ use Rattle.dock.specs.Scan.{scanOf, scanSaid}
 use Rattle.dock.specs.Swap.{swapOf, swapSaid}
 use Rattle.frames.specs.Frames.{packedOf}
 use Rattle.record.specs.declared.Dock.{Dock}
-use Rattle.record.specs.Apart.{dockWith}
+use Rattle.record.specs.Parts.{dockWith}
 use Rattle.range.specs.Range.{inRange}
 use Rattle.text.specs.declared.Kind.{Kind}
 use Rattle.text.specs.declared.Kind.the-variants.{Read, Frame, Scan, Map, Malformed}

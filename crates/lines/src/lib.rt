@@ -8,8 +8,6 @@ use record::Held;
 use record::Map;
 use record::Rest;
 use record::Types;
-use record::apart::dock_with;
-use record::apart::rest_of;
 use text::Kind;
 ghost use mathlib.Core.Path.{_≡_};
 ghost use mathlib.Core.Bool.{true};
@@ -17,14 +15,13 @@ ghost use mathlib.Core.List.{List};
 ghost use Prim.Native.Nat.{ℕ};
 ghost use lib.ListN.{length};
 ghost use Rattle.basics.specs.Said.{Answers};
-ghost use Rattle.dock.specs.Closing.{restInRange};
 ghost use Rattle.dock.specs.Scan.{scanOf};
 ghost use Rattle.dock.specs.Swap.{swapOf};
 ghost use Rattle.dock.specs.Frame.{frameOf};
 ghost use Rattle.dock.specs.Read.{readOf};
 ghost use Rattle.digits.specs.Digits.{allDigits, bytesFrom, frameIn};
-ghost use Rattle.record.specs.Apart.{dockWith};
-ghost use Rattle.range.specs.Range.{inRange};
+ghost use Rattle.record.specs.Parts.{dockWith};
+ghost use Rattle.range.specs.Range.{goodRest, inRange};
 ghost use Rattle.lines.specs.Steps.{answerPrints, readPrints, steppedBy, steppedRead, steppedWith, stepOf, steppedSays, stepSaid};
 
 // What a line prints.
@@ -103,7 +100,7 @@ fn scan_line(
 
 // An empty line: a read.
 fn read_line(held: &mut Held, types: &Types, rest: Rest) -> SteppedRest
-    requires { ⌜ restInRange (now held) (now types) rest ≡ true ⌝ }
+    requires { ⌜ goodRest rest ≡ true ⌝ }
     ensures { λ r. ⌜ ((map closed counts : List ℕ)
         → inRange (dockWith map closed counts (now (held .entry)) (now (types .entry)) rest) ≡ true
         → steppedWith map closed counts (now (held .exit)) (now (types .entry)) r
@@ -127,7 +124,7 @@ fn frame_line(
     rest: Rest,
     line: &[u8],
 ) -> SteppedRest
-    requires { ⌜ (restInRange (now held) (now types) rest ≡ true) × (length (now line) ≡ 3) × (allDigits (now line) ≡ true) ⌝ }
+    requires { ⌜ (goodRest rest ≡ true) × (length (now line) ≡ 3) × (allDigits (now line) ≡ true) ⌝ }
     ensures { λ r. ⌜ ((map : List ℕ)
         → inRange (dockWith map (now (closed .entry)) (now (counts .entry)) (now (held .entry)) (now (types .entry)) rest) ≡ true
         → steppedWith map (now (closed .exit)) (now (counts .exit)) (now (held .exit)) (now (types .exit)) r
@@ -206,14 +203,12 @@ pub fn step(dock: Dock, line: &[u8]) -> Stepped
             printed: Printed::RefusalLine(9),
         };
     }
-    let contacts = dock.contacts;
-    let keys = dock.keys;
     let mut map = dock.map;
-    let mut closed = contacts.closed;
-    let mut counts = contacts.counts;
-    let mut held = keys.held;
+    let mut closed = dock.closed;
+    let mut counts = dock.counts;
+    let mut held = dock.held;
     let mut types = dock.types;
-    let rest = rest_of(dock);
+    let rest = dock.rest;
     let stepped = step_in_place(
         &mut map,
         &mut closed,
@@ -226,7 +221,14 @@ pub fn step(dock: Dock, line: &[u8]) -> Stepped
     let after = stepped.rest;
     let printed = stepped.printed;
     Stepped {
-        dock: dock_with(map, closed, counts, held, types, after),
+        dock: Dock {
+            map,
+            closed,
+            counts,
+            held,
+            types,
+            rest: after,
+        },
         printed,
     }
 }

@@ -9,7 +9,7 @@ use lib.ListN.{getD}
 use Rattle.contacts.specs.Scans.{contactIn}
 use Rattle.contacts.proofs.Pointwise.{contact-at}
 use Rattle.record.specs.declared.Mode.{Mode}
-use Rattle.record.specs.declared.Keys.{Keys}
+use Rattle.record.specs.Views.{Keys}
 use Rattle.keying.specs.Moves.{turned, turnsTo, rowsTo}
 
 module _ (m : Mode) (types map : List ℕ) where

@@ -15,7 +15,7 @@ use Rattle.basics.proofs.Sameness.{same-is}
 use Rattle.contacts.specs.Scans.{contactIn}
 use Rattle.contacts.proofs.Bytes.{row-same}
 use Rattle.record.specs.declared.Mode.{Mode}
-use Rattle.record.specs.declared.Keys.{Keys}
+use Rattle.record.specs.Views.{Keys}
 use Rattle.keying.specs.Moves.{moved, turned, rowsTo}
 
 -- The rows below a row in which a byte has a 1, the lowest first, and all its rows that have one.

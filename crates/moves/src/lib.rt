@@ -17,7 +17,7 @@ ghost use Prim.Native.Nat.{_≤_, _<_};
 ghost use lib.ListN.{length};
 ghost use Rattle.basics.specs.Lists.{allUpTo};
 ghost use Rattle.keys.specs.Keys.{laidOut, lastKey};
-ghost use Rattle.record.specs.Apart.{keysWith};
+ghost use Rattle.record.specs.Views.{keysWith};
 ghost use Rattle.range.specs.Range.{goodKeys, goodMode};
 ghost use Rattle.keying.specs.Moves.{keysFrom, pressed, released, moved, turnsTo, rowsTo};
 

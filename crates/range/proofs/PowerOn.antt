@@ -9,11 +9,11 @@ use Rattle.replies.specs.declared.Replies.{Replies}
 use Rattle.queue.specs.Queues.{tidy, queueOf}
 use Rattle.replies.specs.Replies.{tidyReplies, repliesOf}
 use Rattle.record.specs.Power.{countUp, plainMap, freshWith, powerOn}
-use Rattle.range.specs.Range.{goodMode, goodKeys, inRange}
+use Rattle.range.specs.Range.{goodMode, goodOutgoing, inRange}
 use Rattle.range.proofs.Ranges.{in-range}
 
 pub fresh-in-range : (map : List ℕ) (replies : Replies) → allUpTo lastKey map ≡ true → tidyReplies replies ≡ true → inRange (freshWith map replies) ≡ true
-unfolding freshWith goodKeys goodMode tidy queueOf allUpTo
+unfolding freshWith goodOutgoing goodMode tidy queueOf allUpTo
 fresh-in-range map replies good short = in-range (freshWith map replies) good refl refl short refl
 
 pub power-on-in-range : inRange powerOn ≡ true

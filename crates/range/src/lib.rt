@@ -1,11 +1,12 @@
 // Is every part of a record in its range (docs/RECORD.md). The loops keep a flag and run to their ends, so that the compiler takes sixteen entries at a time;
 // the tests are joined by `&` and `|`, so that there is one way through.
 use record::Dock;
-use record::Keys;
 use record::Mode;
+use record::Outgoing;
+use record::Rest;
 ghost use mathlib.Core.Path.{_≡_};
 ghost use Rattle.basics.specs.Lists.{allUpTo};
-ghost use Rattle.range.specs.Range.{goodMode, goodKeys, takesValue, inRange};
+ghost use Rattle.range.specs.Range.{goodMode, goodOutgoing, goodRest, takesValue, inRange};
 
 // No entry is over a limit.
 pub fn all_up_to(limit: u8, list: &[u8]) -> bool
@@ -30,11 +31,11 @@ fn is_good_mode(mode: Mode) -> bool
 }
 
 // A queue, a key or none, and a countdown that no interval outlasts.
-fn is_good_keys(keys: Keys) -> bool
-    ensures { λ r. ⌜ r ≡ goodKeys keys ⌝ }
+fn is_good_outgoing(outgoing: Outgoing) -> bool
+    ensures { λ r. ⌜ r ≡ goodOutgoing outgoing ⌝ }
 {
-    let queue = keys.queue;
-    queue::is_tidy(queue) & (keys.repeating <= keys::LAST_KEY) & (keys.countdown <= 240)
+    let queue = outgoing.queue;
+    queue::is_tidy(queue) & (outgoing.repeating <= keys::LAST_KEY) & (outgoing.countdown <= 240)
 }
 
 // A command that takes a value.
@@ -44,16 +45,20 @@ pub fn takes_value(byte: u8) -> bool
     (byte == 0xed) | (byte == 0xf0) | (byte == 0xf3) | ((0xfb <= byte) & (byte <= 0xfd))
 }
 
+// What is passed by value is in its range.
+fn is_good_rest(rest: Rest) -> bool
+    ensures { λ r. ⌜ r ≡ goodRest rest ⌝ }
+{
+    let outgoing = rest.outgoing;
+    let mode = rest.mode;
+    let replies = rest.replies;
+    is_good_outgoing(outgoing) & is_good_mode(mode) & replies::is_tidy(replies) & ((rest.waiting == 0) | takes_value(rest.waiting))
+}
+
 // Every part is in its range: of the arrays only the map has one.
 pub fn in_range(dock: Dock) -> bool
     ensures { λ r. ⌜ r ≡ inRange dock ⌝ }
 {
-    let keys = dock.keys;
-    let mode = dock.mode;
-    let replies = dock.replies;
-    all_up_to(keys::LAST_KEY, &dock.map)
-        & is_good_keys(keys)
-        & is_good_mode(mode)
-        & replies::is_tidy(replies)
-        & ((dock.waiting == 0) | takes_value(dock.waiting))
+    let rest = dock.rest;
+    all_up_to(keys::LAST_KEY, &dock.map) & is_good_rest(rest)
 }

@@ -9,9 +9,8 @@ use Rattle.replies.specs.declared.Replies.{Replies}
 use Rattle.replies.specs.Replies.{repliesOf}
 use Rattle.record.specs.declared.Dock.{Dock}
 use Rattle.record.specs.declared.Rest.{Rest}
-use Rattle.record.specs.Apart.{restOf, dockWith}
-use Rattle.record.specs.Parts.{withMap}
-use Rattle.record.specs.Power.{countUp, plainMap, defaultTypes, freshWith, powerOn}
+use Rattle.record.specs.Parts.{withMap, dockWith}
+use Rattle.record.specs.Power.{countUp, plainMap, defaultTypes, freshRest, freshWith, powerOn}
 
 -- The positions below this one are filled.
 unfoldable pub filledTo : ℕ → List ℕ → List ℕ
@@ -34,11 +33,10 @@ unfolding filledTo plainMap countUp
 filled-plain = refl
 
 -- So a record that begins with no key, with what power-on has beside the map, is that of power-on in the end.
-pub filled-power-on : (d e : Dock) (position : ℕ) (types : List ℕ) (rest : Rest) (replies : Replies)
-    → (position ≤ 104) × (e ≡ withMap d (filledTo position (d .map))) → 104 ≤ position
-    → d ≡ dockWith (replicate 144 0) (replicate 18 0) (replicate 144 0) (replicate 144 0) types rest
-    → types ≡ defaultTypes → rest ≡ restOf (freshWith plainMap replies) → replies ≡ repliesOf (0xaa ∷ []) → e ≡ powerOn
+pub filled-power-on : (e : Dock) (position : ℕ) (types : List ℕ) (rest : Rest) (replies : Replies) → (position ≤ 104)
+    × (e ≡ dockWith (filledTo position (replicate 144 0)) (replicate 18 0) (replicate 144 0) (replicate 144 0) types rest) → 104 ≤ position
+    → types ≡ defaultTypes → rest ≡ freshRest replies → replies ≡ repliesOf (0xaa ∷ []) → e ≡ powerOn
 unfolding powerOn freshWith
-filled-power-on d e position types rest replies i end begun t r w =
+filled-power-on e position types rest replies i end t r w =
     let all : position ≡ 104 = le-antisymm (i .0) end in
-    rw (i .1, begun, all, filled-plain, t, r, w)
+    rw (i .1, all, filled-plain, t, r, w)

@@ -5,10 +5,11 @@ use mathlib.Core.Path.{_≡_, ap}
 use mathlib.Core.List.{List, []}
 use Rattle.basics.proofs.Once.{one-answer}
 use Rattle.record.specs.declared.Dock.{Dock}
-use Rattle.record.specs.declared.Keys.{Keys}
+use Rattle.record.specs.Views.{keysWith, Keys, outgoingOf}
+use Rattle.record.specs.Parts.{dockWith}
+use Rattle.record.specs.InPlace.{RestAfter, TypesAfter, ArraysAfter}
 use Rattle.record.specs.declared.Outgoing.{Outgoing}
 use Rattle.record.specs.declared.Rest.{Rest}
-use Rattle.record.specs.Apart.{outgoingOf, restOf, keysWith, dockWith, RestAfter, TypesAfter, ArraysAfter}
 
 -- `dockWith`: a record fixes the parts that it is put together from.
 pub parts-once : {stated : Dock} (map closed counts held types map′ closed′ counts′ held′ types′ : List ℕ) (rest rest′ : Rest)
@@ -17,11 +18,11 @@ pub parts-once : {stated : Dock} (map closed counts held types map′ closed′ 
 parts-once map closed counts held types map′ closed′ counts′ held′ types′ rest rest′ p q =
     let e = one-answer p q in (
       ap (λ (d : Dock). d .map) e,
-      ap (λ (d : Dock). d .contacts .closed) e,
-      ap (λ (d : Dock). d .contacts .counts) e,
-      ap (λ (d : Dock). d .keys .held) e,
+      ap (λ (d : Dock). d .closed) e,
+      ap (λ (d : Dock). d .counts) e,
+      ap (λ (d : Dock). d .held) e,
       ap (λ (d : Dock). d .types) e,
-      ap restOf e,
+      ap (λ (d : Dock). d .rest) e,
     )
 
 -- `keysWith`: so do the keys.

@@ -7,7 +7,7 @@ use lib.ListN.{getD}
 use Rattle.basics.specs.Choice.{pick}
 use Rattle.keys.specs.Keys.{lastKey}
 use Rattle.keys.specs.Named.{shiftL, shiftR, ctrlL, ctrlR, altL, altR}
-use Rattle.record.specs.declared.Keys.{Keys}
+use Rattle.record.specs.Views.{Keys}
 
 -- A key is held.
 abbrev pub isHeld : Keys → ℕ → Bool

@@ -1,4 +1,5 @@
-pub mod Power
+pub mod Views
 pub mod Parts
+pub mod Power
 pub mod Held
-pub mod Apart
+pub mod InPlace

@@ -2,21 +2,24 @@
 use Prim.Native.Nat.{ℕ}
 use mathlib.Core.Bool.{Bool}
 use mathlib.Core.List.{List}
-use Rattle.contacts.specs.declared.Contacts.{Contacts}
-use Rattle.queue.specs.declared.Queue.{Queue}
+use Rattle.contacts.specs.Counts.{Contacts}
 use Rattle.replies.specs.declared.Replies.{Replies}
 use Rattle.record.specs.declared.Mode.{Mode}
-use Rattle.record.specs.declared.Keys.{Keys}
+use Rattle.record.specs.declared.Outgoing.{Outgoing}
+use Rattle.record.specs.declared.Rest.{Rest}
 use Rattle.record.specs.declared.Dock.{Dock}
+use Rattle.record.specs.Views.{Keys, outgoingOf}
 
--- All parts, in the order of the record.
-abbrev pub dock : List ℕ → Contacts → Keys → List ℕ → Mode → Replies → Bool → ℕ → Bool → ℕ → Dock
-dock map contacts keys types mode replies scanning waiting handover given =
+-- All parts, in the order of the record: the arrays and the rest,
+abbrev pub dockWith : List ℕ → List ℕ → List ℕ → List ℕ → List ℕ → Rest → Dock
+dockWith map closed counts held types rest =
+    record { map = map; closed = closed; counts = counts; held = held; types = types; rest = rest }
+
+-- and those of the rest.
+abbrev pub restOf : Outgoing → Mode → Replies → Bool → ℕ → Bool → ℕ → Rest
+restOf outgoing mode replies scanning waiting handover given =
     record {
-      map = map;
-      contacts = contacts;
-      keys = keys;
-      types = types;
+      outgoing = outgoing;
       mode = mode;
       replies = replies;
       scanning = scanning;
@@ -27,41 +30,44 @@ dock map contacts keys types mode replies scanning waiting handover given =
 
 -- The record with another map, with other contacts, and so on: one part replaced at a time.
 abbrev pub withMap : Dock → List ℕ → Dock
-withMap d map = dock map (d .contacts) (d .keys) (d .types) (d .mode) (d .replies) (d .scanning) (d .waiting) (d .handover) (d .given)
+withMap d map = dockWith map (d .closed) (d .counts) (d .held) (d .types) (d .rest)
 
 abbrev pub withContacts : Dock → Contacts → Dock
-withContacts d contacts = dock (d .map) contacts (d .keys) (d .types) (d .mode) (d .replies) (d .scanning) (d .waiting) (d .handover) (d .given)
-
-abbrev pub withKeys : Dock → Keys → Dock
-withKeys d keys = dock (d .map) (d .contacts) keys (d .types) (d .mode) (d .replies) (d .scanning) (d .waiting) (d .handover) (d .given)
+withContacts d contacts = dockWith (d .map) (contacts .closed) (contacts .counts) (d .held) (d .types) (d .rest)
 
 abbrev pub withTypes : Dock → List ℕ → Dock
-withTypes d types = dock (d .map) (d .contacts) (d .keys) types (d .mode) (d .replies) (d .scanning) (d .waiting) (d .handover) (d .given)
+withTypes d types = dockWith (d .map) (d .closed) (d .counts) (d .held) types (d .rest)
 
+abbrev pub withRest : Dock → Rest → Dock
+withRest d rest = dockWith (d .map) (d .closed) (d .counts) (d .held) (d .types) rest
+
+-- The flags are an array of their own, what goes out is a part of the rest.
+abbrev pub withKeys : Dock → Keys → Dock
+withKeys d keys = let r = d .rest in
+    dockWith (d .map) (d .closed) (d .counts) (keys .held) (d .types)
+    (restOf (outgoingOf keys) (r .mode) (r .replies) (r .scanning) (r .waiting) (r .handover) (r .given))
+
+-- One part of the rest.
 abbrev pub withMode : Dock → Mode → Dock
-withMode d mode = dock (d .map) (d .contacts) (d .keys) (d .types) mode (d .replies) (d .scanning) (d .waiting) (d .handover) (d .given)
+withMode d mode = let r = d .rest in
+    withRest d (restOf (r .outgoing) mode (r .replies) (r .scanning) (r .waiting) (r .handover) (r .given))
 
 abbrev pub withReplies : Dock → Replies → Dock
-withReplies d replies = dock (d .map) (d .contacts) (d .keys) (d .types) (d .mode) replies (d .scanning) (d .waiting) (d .handover) (d .given)
+withReplies d replies = let r = d .rest in
+    withRest d (restOf (r .outgoing) (r .mode) replies (r .scanning) (r .waiting) (r .handover) (r .given))
 
 abbrev pub withScanning : Dock → Bool → Dock
-withScanning d scanning = dock (d .map) (d .contacts) (d .keys) (d .types) (d .mode) (d .replies) scanning (d .waiting) (d .handover) (d .given)
+withScanning d scanning = let r = d .rest in
+    withRest d (restOf (r .outgoing) (r .mode) (r .replies) scanning (r .waiting) (r .handover) (r .given))
 
 abbrev pub withWaiting : Dock → ℕ → Dock
-withWaiting d waiting = dock (d .map) (d .contacts) (d .keys) (d .types) (d .mode) (d .replies) (d .scanning) waiting (d .handover) (d .given)
+withWaiting d waiting = let r = d .rest in
+    withRest d (restOf (r .outgoing) (r .mode) (r .replies) (r .scanning) waiting (r .handover) (r .given))
 
 abbrev pub withHandover : Dock → Bool → Dock
-withHandover d handover = dock (d .map) (d .contacts) (d .keys) (d .types) (d .mode) (d .replies) (d .scanning) (d .waiting) handover (d .given)
+withHandover d handover = let r = d .rest in
+    withRest d (restOf (r .outgoing) (r .mode) (r .replies) (r .scanning) (r .waiting) handover (r .given))
 
 abbrev pub withGiven : Dock → ℕ → Dock
-withGiven d given = dock (d .map) (d .contacts) (d .keys) (d .types) (d .mode) (d .replies) (d .scanning) (d .waiting) (d .handover) given
-
--- The keys by their four parts, with another queue, and with another key repeating.
-abbrev pub keys : List ℕ → Queue → ℕ → ℕ → Keys
-keys held queue repeating countdown = record { held = held; queue = queue; repeating = repeating; countdown = countdown }
-
-abbrev pub withQueue : Keys → Queue → Keys
-withQueue k queue = keys (k .held) queue (k .repeating) (k .countdown)
-
-abbrev pub withRepeat : Keys → ℕ → ℕ → Keys
-withRepeat k key countdown = keys (k .held) (k .queue) key countdown
+withGiven d given = let r = d .rest in
+    withRest d (restOf (r .outgoing) (r .mode) (r .replies) (r .scanning) (r .waiting) (r .handover) given)

@@ -3,12 +3,13 @@ use Prim.Native.Nat.{ℕ, zero, suc}
 use mathlib.Core.Bool.{true, false}
 use mathlib.Core.List.{List, [], _∷_, _++_, map}
 use lib.ListN.{replicate}
-use Rattle.contacts.specs.Counts.{unseen}
 use Rattle.keys.specs.Keys.{rows, noRow, rowType}
 use Rattle.replies.specs.declared.Replies.{Replies}
 use Rattle.queue.specs.Queues.{queueOf}
 use Rattle.replies.specs.Replies.{repliesOf}
+use Rattle.record.specs.declared.Rest.{Rest}
 use Rattle.record.specs.declared.Dock.{Dock}
+use Rattle.record.specs.Parts.{dockWith, restOf}
 
 -- n numbers from `first` on.
 unfoldable pub countUp : ℕ → ℕ → List ℕ
@@ -28,20 +29,13 @@ abbrev pub defaultRate : ℕ
 defaultRate = 0x2b
 
 -- A dock that has just woken up: set 2, default rate and types, scanning on, indicators off, nothing held, no byte given yet.
+abbrev pub freshRest : Replies → Rest
+freshRest replies =
+    restOf (record { queue = queueOf []; repeating = 0; countdown = 0 }) (record { set = 2; rate = defaultRate; indicators = 0 })
+    replies true 0 false 0xfe
+
 unfoldable pub freshWith : List ℕ → Replies → Dock
-freshWith map replies =
-    record {
-      map = map;
-      contacts = unseen;
-      keys = record { held = replicate 144 0; queue = queueOf []; repeating = 0; countdown = 0 };
-      types = defaultTypes;
-      mode = record { set = 2; rate = defaultRate; indicators = 0 };
-      replies = replies;
-      scanning = true;
-      waiting = 0;
-      handover = false;
-      given = 0xfe;
-    }
+freshWith map replies = dockWith map (replicate 18 0) (replicate 144 0) (replicate 144 0) defaultTypes (freshRest replies)
 
 -- Power-on: the plain map, and AA waits as a reply.
 unfoldable pub powerOn : Dock

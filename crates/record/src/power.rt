@@ -4,13 +4,9 @@ use crate::Mode;
 use crate::Outgoing;
 use crate::Rest;
 use crate::Types;
-use crate::apart::dock_with;
 use replies::Replies;
 ghost use mathlib.Core.Path.{_≡_};
-ghost use mathlib.Core.List.{List};
-ghost use Prim.Native.Nat.{ℕ};
-ghost use Rattle.record.specs.Apart.{restOf};
-ghost use Rattle.record.specs.Power.{defaultTypes, freshWith, powerOn};
+ghost use Rattle.record.specs.Power.{defaultTypes, freshRest, powerOn};
 
 // The default rate: 120 scans, then every 22 (docs/RULES.md, section 6).
 pub const DEFAULT_RATE: u8 = 0x2b;
@@ -36,7 +32,7 @@ pub fn default_types() -> Types
 
 // All but the arrays of a dock that has just woken up, with these replies waiting.
 pub fn fresh_rest(replies: Replies) -> Rest
-    ensures { λ r. ⌜ ((map : List ℕ) → r ≡ restOf (freshWith map replies)) ⌝ }
+    ensures { λ r. ⌜ r ≡ freshRest replies ⌝ }
 {
     Rest {
         outgoing: Outgoing {
@@ -64,7 +60,14 @@ pub fn power_on() -> Dock
 {
     let types = default_types();
     let rest = fresh_rest(replies::one(0xaa));
-    let mut dock = dock_with([0; 144], [0; 18], [0; 144], [0; 144], types, rest);
+    let mut dock = Dock {
+        map: [0; 144],
+        closed: [0; 18],
+        counts: [0; 144],
+        held: [0; 144],
+        types,
+        rest,
+    };
     let mut position: usize = 0;
     while position < PLAIN_KEYS {
         dock.map[position] = (position + 1) as u8;

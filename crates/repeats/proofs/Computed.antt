@@ -4,7 +4,7 @@ use lib.Count.{ones, onesIn}
 use mathlib.Core.Bool.{true}
 use Rattle.basics.specs.Lists.{allUpTo, same}
 use Rattle.record.specs.Power.{countUp, plainMap, defaultTypes, freshWith, powerOn}
-use Rattle.range.specs.Range.{inRange, goodMode, goodKeys}
+use Rattle.range.specs.Range.{inRange, goodRest, goodMode, goodOutgoing}
 use Rattle.record.specs.Held.{modifiersOf}
 use Rattle.queue.specs.Queues.{waiting, queueOf, tidy, pushedTo, lastReplaced}
 use Rattle.replies.specs.Replies.{waitingReplies, repliesOf, tidyReplies}
@@ -31,14 +31,13 @@ use Rattle.runs.specs.Stories.{host, nothing, showing, showingToo}
 use Rattle.runs.specs.Told.{twelve}
 use Rattle.runs.specs.Bytes.{keyBytesOf}
 use Rattle.transcripts.specs.Transcripts.{reached, gives, comeOut}
-use Rattle.repeats.specs.Repeated.{quickest, due, notBefore, repeatLost, repeatAfterLost, repeatTime, repeatInPhantom, noneTakesOver, pauseEndsRepeat, repeatUnwrapped}
-use Rattle.repeats.specs.Repeated.{slowAgain, paced, enableEndsRepeat, swapKeepsModes, setRestoresRate, defaultRestoresRate, resetRestoresRate, rateOfNextInterval, repeatInSet3}
+use Rattle.repeats.specs.Repeated.{quickest, due, notBefore, repeatLost, repeatAfterLost, repeatTime, repeatInPhantom, noneTakesOver, pauseEndsRepeat, repeatUnwrapped, slowAgain, paced, enableEndsRepeat, swapKeepsModes, setRestoresRate, defaultRestoresRate, resetRestoresRate, rateOfNextInterval, repeatInSet3}
 
 pub all-due : comeOut keyBytesOf due ≡ true
 unfolding
     ones onesIn
     allUpTo same
-    countUp plainMap defaultTypes freshWith powerOn inRange goodMode goodKeys modifiersOf
+    countUp plainMap defaultTypes freshWith powerOn inRange goodRest goodMode goodOutgoing modifiersOf
     waiting queueOf tidy waitingReplies repliesOf tidyReplies pushedTo lastReplaced
     rows rowOf codeIn
     keyWith firstWith
@@ -61,7 +60,7 @@ pub all-paced : comeOut keyBytesOf paced ≡ true
 unfolding
     ones onesIn
     allUpTo same
-    countUp plainMap defaultTypes freshWith powerOn inRange goodMode goodKeys modifiersOf
+    countUp plainMap defaultTypes freshWith powerOn inRange goodRest goodMode goodOutgoing modifiersOf
     waiting queueOf tidy waitingReplies repliesOf tidyReplies pushedTo lastReplaced
     rows rowOf codeIn
     keyWith firstWith

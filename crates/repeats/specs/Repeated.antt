@@ -3,7 +3,7 @@
 use mathlib.Core.List.{List, [], _∷_, _++_}
 use Rattle.frames.specs.Frames.{packedOf}
 use Rattle.record.specs.Power.{plainMap}
-use Rattle.runs.specs.Calls.{Call, Swap, Frame}
+use Rattle.dock.specs.Calls.{Call, Swap, Frame}
 use Rattle.runs.specs.Stories.{reads, host, scans, nothing, showing, showingToo}
 use Rattle.transcripts.specs.Transcripts.{Transcript, transcript}
 

@@ -4,7 +4,7 @@ use lib.Count.{ones, onesIn}
 use mathlib.Core.List.{map}
 use Rattle.basics.specs.Lists.{allUpTo, same}
 use Rattle.record.specs.Power.{countUp, plainMap, defaultTypes, freshWith, powerOn}
-use Rattle.range.specs.Range.{inRange, goodMode, goodKeys}
+use Rattle.range.specs.Range.{inRange, goodRest, goodMode, goodOutgoing}
 use Rattle.record.specs.Held.{modifiersOf}
 use Rattle.queue.specs.Queues.{waiting, queueOf, tidy, pushedTo, lastReplaced}
 use Rattle.replies.specs.Replies.{waitingReplies, repliesOf, tidyReplies}
@@ -33,7 +33,7 @@ use Rattle.history.specs.Scans.{shownAt}
 use Rattle.telling.specs.Queued.{moveBytes, turnBytesAt, turnBytes}
 use Rattle.terminal.specs.Terminals.{begun, hears}
 use Rattle.runs.specs.Bytes.{givenIn}
-use Rattle.runs.specs.Calls.{clears, isClearing}
+use Rattle.runs.specs.Clearing.{clears, isClearing}
 use Rattle.runs.specs.Onlookers.{atPowerOn, isCountedBy, sawScan, isMap, sawSwap, scanningAfter, waitingAfter, setAfter, sawByte}
 use Rattle.runs.specs.Rules.{oneOf, numbersFrom, inCommon, sharesTwo, looksPhantom, setThreeCodes, valuesFor, waitsForValue}
 use Rattle.runs.specs.Machines.{lowestFrom, findsNoRoom, keyLeft}
@@ -48,7 +48,7 @@ pub all-as-told : map (λ (s : Story). outcome (s .earlier) (s .calls)) stories 
 unfolding
     ones onesIn
     allUpTo same
-    countUp plainMap defaultTypes freshWith powerOn inRange goodMode goodKeys modifiersOf
+    countUp plainMap defaultTypes freshWith powerOn inRange goodRest goodMode goodOutgoing modifiersOf
     waiting queueOf tidy waitingReplies repliesOf tidyReplies pushedTo lastReplaced
     rows rowOf codeIn
     keyWith firstWith

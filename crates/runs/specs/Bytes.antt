@@ -23,12 +23,12 @@ use Rattle.frames.specs.Frames.{unpackedOf}
 use Rattle.host.specs.Values.{tookByte}
 use Rattle.keying.specs.Repeat.{ticked, isDue}
 use Rattle.record.specs.declared.Mode.{Mode}
-use Rattle.record.specs.declared.Keys.{Keys}
+use Rattle.record.specs.Views.{Keys, contactsOf, keysOf, withQueue}
+use Rattle.record.specs.Parts.{withKeys}
 use Rattle.record.specs.declared.Dock.{Dock}
-use Rattle.record.specs.Parts.{withKeys, withQueue}
 use Rattle.sending.specs.Sending.{sends}
 use Rattle.telling.specs.Queued.{turnBytes, handedBytes}
-use Rattle.runs.specs.Calls.{Call, Scan, Swap, Frame, Read, asBytes}
+use Rattle.dock.specs.Calls.{Call, Scan, Swap, Frame, Read, asBytes}
 use Rattle.runs.specs.Machines.{ours}
 use Rattle.runs.specs.Worlds.{World, next}
 
@@ -44,18 +44,18 @@ repeatBytes k m types quiet =
 unfoldable pub changeBytes : Dock → List ℕ → List ℕ
 changeBytes d scan =
     pick (isPhantom scan) []
-    (turnBytes 144 (d .mode) (d .types) (d .map) (d .contacts .closed) (countedOf (d .contacts) scan .closed) (d .keys))
+    (turnBytes 144 (d .rest .mode) (d .types) (d .map) (d .closed) (countedOf (contactsOf d) scan .closed) (keysOf d))
 
 -- What a scan that is listened to puts into the queue: the sequences of its changes, then the repeat.
 unfoldable pub heardBytes : Dock → List ℕ → List ℕ
 heardBytes d scan =
-    let still = withKeys d (ticked (d .keys)) in
+    let still = withKeys d (ticked (keysOf d)) in
     let then = changed still scan in
-    changeBytes still scan ++ repeatBytes (then .keys) (then .mode) (then .types) (quiet then)
+    changeBytes still scan ++ repeatBytes (keysOf then) (then .rest .mode) (then .types) (quiet then)
 
 -- What the end of an accepted call puts into it: the releases of an open handover, as far as they fit.
 unfoldable pub closingBytes : Dock → List ℕ
-closingBytes d = pick (d .handover) (handedBytes lastKey 1 (d .keys) (d .mode) (d .types)) []
+closingBytes d = pick (d .rest .handover) (handedBytes lastKey 1 (keysOf d) (d .rest .mode) (d .types)) []
 
 -- What a scan puts into it: one that is not listened to only ends.
 unfoldable pub scanBytes : Dock → List ℕ → List ℕ
@@ -71,7 +71,7 @@ frameBytes TooLarge d = []
 abbrev pub readBytes : Given → Dock → List ℕ
 readBytes Nothing d = closingBytes d
 readBytes (Reply byte) d = closingBytes d
-readBytes (KeyByte byte) d = closingBytes (withKeys d (withQueue (d .keys) (withoutOldest (d .keys .queue))))
+readBytes (KeyByte byte) d = closingBytes (withKeys d (withQueue (keysOf d) (withoutOldest (d .rest .outgoing .queue))))
 readBytes Refused d = []
 
 -- What a call puts into the queue; a call that is not accepted puts nothing.

@@ -9,7 +9,7 @@ use mathlib.Core.List.{List}
 use Rattle.keys.specs.Keys.{lastKey}
 use Rattle.keys.specs.Named.{pauseKey}
 use Rattle.terminal.specs.Terminals.{isDown}
-use Rattle.runs.specs.Calls.{Call}
+use Rattle.dock.specs.Calls.{Call}
 use Rattle.runs.specs.Machines.{Machine, nothingWaits}
 use Rattle.runs.specs.Worlds.{World, woken, afterCalls, scansSay}
 use Rattle.runs.specs.Runs.{mayBegin, beginning, undisturbed}

@@ -1,4 +1,4 @@
-pub mod Calls
+pub mod Clearing
 pub mod Rules
 pub mod Onlookers
 pub mod Machines

@@ -17,7 +17,7 @@ use Rattle.dock.specs.Read.{readOf}
 use Rattle.keys.specs.Keys.{lastKey}
 use Rattle.queue.specs.Queues.{waiting}
 use Rattle.record.specs.declared.Mode.{Mode}
-use Rattle.record.specs.declared.Keys.{Keys}
+use Rattle.record.specs.Views.{Keys, keysOf}
 use Rattle.record.specs.declared.Dock.{Dock}
 use Rattle.record.specs.Power.{powerOn}
 use Rattle.sending.specs.Sending.{sends}
@@ -64,4 +64,4 @@ findsNoRoom k m types key =
 
 -- After a swap a key is left: the lowest one held finds no room for its release.
 unfoldable pub keyLeft : Dock → Bool
-keyLeft d = findsNoRoom (d .keys) (d .mode) (d .types) (lowestFrom lastKey 1 (d .keys .held))
+keyLeft d = findsNoRoom (keysOf d) (d .rest .mode) (d .types) (lowestFrom lastKey 1 (d .held))

@@ -11,9 +11,11 @@ use Rattle.history.specs.Scans.{shownAt}
 use Rattle.keying.specs.Repeat.{ticked}
 use Rattle.queue.specs.Queues.{waiting}
 use Rattle.record.specs.declared.Dock.{Dock}
+use Rattle.record.specs.Views.{contactsOf, keysOf}
 use Rattle.telling.specs.Queued.{turnBytes}
 use Rattle.terminal.specs.Terminals.{begun}
-use Rattle.runs.specs.Calls.{Call, Scan, Swap, Frame, Read, asBytes, isClearingCall}
+use Rattle.dock.specs.Calls.{Call, Scan, Swap, Frame, Read, asBytes}
+use Rattle.runs.specs.Clearing.{isClearingCall}
 use Rattle.runs.specs.Onlookers.{isCountedBy}
 use Rattle.runs.specs.Machines.{Machine, nothingWaits, keyLeft}
 use Rattle.runs.specs.Worlds.{World, world, next}
@@ -38,13 +40,13 @@ beginning w = world (w .dock) (w .onlooker) (w .onlooker .set) begun
 -- All that the keys send whose contacts turn in a scan.
 unfoldable pub turningBytes : Dock → List ℕ → List ℕ
 turningBytes d scan =
-    turnBytes 144 (d .mode) (d .types) (d .map) (d .contacts .closed) (countedOf (d .contacts) scan .closed) (ticked (d .keys))
+    turnBytes 144 (d .rest .mode) (d .types) (d .map) (d .closed) (countedOf (contactsOf d) scan .closed) (ticked (keysOf d))
 
 -- A scan overruns the queue: it is counted, and what waits and what its events send are more than 16 bytes together.
 unfoldable pub overruns : World → List ℕ → Bool
 overruns w scan =
     let d = w .dock in
-    both (isCountedBy (w .onlooker) (keyLeft d) scan) (ltb 16 (length (waiting (d .keys .queue)) + length (turningBytes d scan)))
+    both (isCountedBy (w .onlooker) (keyLeft d) scan) (ltb 16 (length (waiting (d .rest .outgoing .queue)) + length (turningBytes d scan)))
 
 -- A call overruns the queue; only a scan can.
 abbrev pub overrunsIn : World → Call → Bool

@@ -9,7 +9,7 @@ use Rattle.frames.specs.Frames.{packedOf}
 use Rattle.history.specs.Rows.{saysClosed}
 use Rattle.history.specs.Scans.{shownAt}
 use Rattle.runs.specs.Bytes.{givenIn}
-use Rattle.runs.specs.Calls.{Call, Scan, Frame, Read}
+use Rattle.dock.specs.Calls.{Call, Scan, Frame, Read}
 use Rattle.runs.specs.Machines.{ours, nothingWaits}
 use Rattle.runs.specs.Worlds.{woken, afterCalls}
 use Rattle.runs.specs.Runs.{mayBegin, beginning, undisturbed}

@@ -6,7 +6,7 @@ use lib.ListN.{replicate, set}
 use Rattle.frames.specs.Frames.{packedOf}
 use Rattle.keys.specs.Keys.{lastKey}
 use Rattle.record.specs.Power.{plainMap}
-use Rattle.runs.specs.Calls.{Scan, Swap, Frame}
+use Rattle.dock.specs.Calls.{Scan, Swap, Frame}
 use Rattle.runs.specs.Stories.{Story, story, agreeing, pauseApart, reads, host, scans, nothing, showing, showingToo}
 
 -- The limestone: the 2 is held, its panel is swapped, and once all is read nothing is down.

@@ -8,7 +8,7 @@ use Rattle.frames.specs.Frames.{unpackedOf}
 use Rattle.history.specs.Scans.{saysHeld}
 use Rattle.record.specs.declared.Dock.{Dock}
 use Rattle.terminal.specs.Terminals.{Terminal, begun, hears}
-use Rattle.runs.specs.Calls.{Call, Scan, Swap, Frame, Read, asBytes}
+use Rattle.dock.specs.Calls.{Call, Scan, Swap, Frame, Read, asBytes}
 use Rattle.runs.specs.Onlookers.{Onlooker, atPowerOn, sawScan, sawSwap, sawFrame}
 use Rattle.runs.specs.Machines.{Machine, keyLeft}
 

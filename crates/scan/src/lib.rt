@@ -13,10 +13,10 @@ ghost use mathlib.Core.Bool.{true};
 ghost use mathlib.Core.List.{List};
 ghost use Prim.Native.Nat.{ℕ};
 ghost use lib.ListN.{length};
-ghost use Rattle.record.specs.Apart.{dockWith};
-ghost use Rattle.range.specs.Range.{inRange};
+ghost use Rattle.record.specs.Parts.{dockWith};
+ghost use Rattle.range.specs.Range.{goodRest, inRange};
 ghost use Rattle.dock.specs.Answers.{answeredWith};
-ghost use Rattle.dock.specs.Closing.{restInRange, HeldAfter};
+ghost use Rattle.record.specs.InPlace.{HeldAfter};
 ghost use Rattle.dock.specs.Scan.{listening, counting, changed, repeating, heardScan, scanOf};
 
 // Scans are listened to.
@@ -77,7 +77,7 @@ fn change(
 
 // The repeat, after the scan's changes.
 fn repeat(held: &Held, types: &Types, rest: Rest) -> Rest
-    requires { ⌜ restInRange (now held) (now types) rest ≡ true ⌝ }
+    requires { ⌜ goodRest rest ≡ true ⌝ }
     ensures { λ r. ⌜ HeldAfter repeating (now (held .entry)) (now (types .entry)) rest (now (held .entry)) r ⌝ }
 {
     let replies = rest.replies;

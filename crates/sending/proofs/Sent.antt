@@ -14,7 +14,7 @@ use Rattle.codes.proofs.Lengths.{encode-short}
 use Rattle.queue.specs.Queues.{contents}
 use Rattle.queue.proofs.Meaning.{contents-holding}
 use Rattle.record.specs.declared.Mode.{Mode}
-use Rattle.record.specs.declared.Keys.{Keys}
+use Rattle.record.specs.Views.{Keys}
 use Rattle.record.specs.Held.{flagOf, modifiersOf}
 use Rattle.sending.specs.Sending.{numLock, sends}
 

@@ -10,7 +10,7 @@ use Rattle.keys.specs.Keys.{markOf}
 use Rattle.queue.specs.declared.Queue.{Queue}
 use Rattle.queue.specs.Queues.{waiting, queueOf, pushedTo}
 use Rattle.record.specs.declared.Mode.{Mode}
-use Rattle.record.specs.declared.Keys.{Keys}
+use Rattle.record.specs.Views.{Keys}
 use Rattle.record.specs.Held.{modifiersOf}
 
 -- Num Lock is an indicator.

@@ -6,7 +6,7 @@ use Prim.Native.Nat.{ℕ, zero, suc, _+_, _*_, _%_, _<_}
 use native.Mathlib.Omega.{arith}
 use Rattle.digits.specs.Digits.{allDigits, byteAt, bytesFrom}
 use Rattle.digits.proofs.Characters.{value-at-below-16}
-use Rattle.runs.specs.Calls.{asBytes}
+use Rattle.dock.specs.Calls.{asBytes}
 
 byte-small : (line : List ℕ) (i : ℕ) → allDigits line ≡ true → byteAt line i < 256
 unfolding byteAt

@@ -5,8 +5,8 @@ use Rattle.digits.specs.Digits.{bytesFrom, frameIn}
 use Rattle.lines.specs.declared.Printed.{Printed}
 use Rattle.lines.specs.Steps.{stepOf}
 use Rattle.record.specs.declared.Dock.{Dock}
-use Rattle.runs.specs.Calls.{Call}
-use Rattle.runs.specs.Calls as calls
+use Rattle.dock.specs.Calls.{Call}
+use Rattle.dock.specs.Calls as calls
 use Rattle.text.specs.declared.Kind.{Kind}
 use Rattle.text.specs.declared.Kind.the-variants.{Read, Frame, Scan, Map, Malformed}
 use Rattle.text.specs.Lines.{kindOf}

@@ -14,7 +14,7 @@ ghost use mathlib.Core.Path.{_≡_};
 ghost use mathlib.Core.Bool.{true};
 ghost use mathlib.Core.List.{List};
 ghost use Prim.Native.Nat.{ℕ};
-ghost use Rattle.record.specs.Apart.{dockWith};
+ghost use Rattle.record.specs.Parts.{dockWith};
 ghost use Rattle.range.specs.Range.{inRange};
 ghost use Rattle.dock.specs.Answers.{answeredWith};
 ghost use Rattle.dock.specs.Swap.{remapped, swapOf};

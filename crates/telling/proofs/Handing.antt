@@ -18,12 +18,11 @@ use Rattle.queue.specs.Queues.{waiting}
 use Rattle.queue.proofs.Room.{no-room-waits}
 use Rattle.sending.specs.Sending.{sends}
 use Rattle.sending.proofs.Sent.{sends-short}
-use Rattle.keying.specs.declared.Handed.{Handed}
+use Rattle.keying.specs.Handover.{Handed, canLeave, handedFrom}
 use Rattle.keying.specs.Moves.{releasedWith, released}
-use Rattle.keying.specs.Handover.{canLeave, handedFrom}
 use Rattle.keying.proofs.Kept.{handed-keeps}
 use Rattle.record.specs.declared.Mode.{Mode}
-use Rattle.record.specs.declared.Keys.{Keys}
+use Rattle.record.specs.Views.{Keys}
 use Rattle.record.specs.Held.{isHeld, flagOf, heldTo}
 use Rattle.telling.specs.Agreeing.{NoneOutside}
 use Rattle.basics.proofs.Cases.{by-cases, never, neither-first, neither-second}

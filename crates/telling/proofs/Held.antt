@@ -19,7 +19,7 @@ use Rattle.contacts.proofs.Pointwise.{contact-small}
 use Rattle.keying.specs.Moves.{pressed, releasedWith, released, moved, turned, turnsTo}
 use Rattle.keying.proofs.Kept.{turns-keep}
 use Rattle.record.specs.declared.Mode.{Mode}
-use Rattle.record.specs.declared.Keys.{Keys}
+use Rattle.record.specs.Views.{Keys}
 use Rattle.telling.specs.Agreeing.{Agrees, EachOnce}
 use Rattle.basics.proofs.Cases.{by-cases}
 use Rattle.basics.proofs.Zeros.{zeros-at}

@@ -11,11 +11,10 @@ use Rattle.codes.specs.declared.Action.the-variants.{Release}
 use Rattle.queue.specs.Queues.{waiting}
 use Rattle.sending.specs.Sending.{sends}
 use Rattle.sending.proofs.Sent.{sends-short, flag-small}
-use Rattle.keying.specs.declared.Handed.{Handed}
+use Rattle.keying.specs.Handover.{Handed, canLeave, handedFrom}
 use Rattle.keying.specs.Moves.{releasedWith, released}
-use Rattle.keying.specs.Handover.{canLeave, handedFrom}
 use Rattle.record.specs.declared.Mode.{Mode}
-use Rattle.record.specs.declared.Keys.{Keys}
+use Rattle.record.specs.Views.{Keys}
 use Rattle.record.specs.Held.{isHeld, heldTo, heldCount}
 use Rattle.basics.proofs.Cases.{by-cases}
 use Rattle.telling.proofs.Handing.{down-own, down-any, held-up, fewer-held}

@@ -18,7 +18,7 @@ use Rattle.queue.specs.Queues.{waiting, hasRoom}
 use Rattle.queue.proofs.Meaning.{waiting-queueOf}
 use Rattle.queue.proofs.Room.{pushed-nothing-front, no-room-waits}
 use Rattle.record.specs.declared.Mode.{Mode}
-use Rattle.record.specs.declared.Keys.{Keys}
+use Rattle.record.specs.Views.{Keys}
 use Rattle.sending.specs.Sending.{sends, queuedOf}
 use Rattle.sending.proofs.Sent.{sends-short}
 use Rattle.keying.specs.Moves.{pressed, releasedWith, released, moved, turned, turnedAt}

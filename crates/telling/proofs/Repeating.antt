@@ -18,7 +18,7 @@ use Rattle.keying.specs.Moves.{pressed, releasedWith, released, turnsTo}
 use Rattle.keying.specs.Handover.{handedFrom}
 use Rattle.keying.proofs.Kept.{handed-keeps, turns-keep}
 use Rattle.record.specs.declared.Mode.{Mode}
-use Rattle.record.specs.declared.Keys.{Keys}
+use Rattle.record.specs.Views.{Keys}
 use Rattle.telling.specs.Agreeing.{NoneOutside, RepeatsHeld}
 use Rattle.basics.proofs.Cases.{by-cases, picked}
 use Rattle.telling.proofs.Held.{pressed-flags, released-flags, turns-other}

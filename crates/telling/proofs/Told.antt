@@ -20,14 +20,12 @@ use Rattle.queue.specs.declared.Queue.{Queue}
 use Rattle.queue.specs.Queues.{waiting, queueOf}
 use Rattle.queue.proofs.Meaning.{waiting-queueOf}
 use Rattle.record.specs.declared.Mode.{Mode}
-use Rattle.record.specs.declared.Keys.{Keys}
-use Rattle.record.specs.Parts.{withQueue}
+use Rattle.record.specs.Views.{Keys, withQueue}
 use Rattle.record.specs.Held.{isHeld, modifiersOf}
 use Rattle.sending.specs.Sending.{numLock, sends}
-use Rattle.keying.specs.declared.Handed.{Handed}
+use Rattle.keying.specs.Handover.{Handed, canLeave, handedFrom}
 use Rattle.keying.specs.Moves.{pressed, releasedWith, released, turnsTo}
 use Rattle.keying.specs.Repeat.{ticked, isDue, repeated}
-use Rattle.keying.specs.Handover.{canLeave, handedFrom}
 use Rattle.terminal.specs.Terminals.{Terminal, terminal, hears, hearsAll}
 use Rattle.terminal.proofs.Hearing.{hears-more, hears-first}
 use Rattle.terminal.proofs.Heard.{press-heard, release-heard, repeat-heard}

@@ -15,7 +15,7 @@ use Rattle.contacts.specs.Scans.{contact}
 use Rattle.keying.specs.Moves.{pressed, released, moved, turned, turnedAt}
 use Rattle.queue.specs.Queues.{waiting, hasRoom}
 use Rattle.record.specs.declared.Mode.{Mode}
-use Rattle.record.specs.declared.Keys.{Keys}
+use Rattle.record.specs.Views.{Keys}
 use Rattle.sending.specs.Sending.{sends}
 use Rattle.telling.specs.Overruns.{lacksRoom, overrunsAt}
 use Rattle.telling.specs.Queued.{moveBytes, turnBytesAt}

@@ -13,12 +13,11 @@ use Rattle.queue.specs.Queues.{waiting, hasRoom}
 use Rattle.queue.proofs.Meaning.{waiting-queueOf}
 use Rattle.queue.proofs.Room.{pushed-whole}
 use Rattle.record.specs.declared.Mode.{Mode}
-use Rattle.record.specs.declared.Keys.{Keys}
+use Rattle.record.specs.Views.{Keys}
 use Rattle.record.specs.Held.{isHeld}
 use Rattle.sending.specs.Sending.{sends, queuedOf}
-use Rattle.keying.specs.declared.Handed.{Handed}
+use Rattle.keying.specs.Handover.{Handed, canLeave, handedFrom}
 use Rattle.keying.specs.Moves.{pressed, releasedWith, released, turnsTo}
-use Rattle.keying.specs.Handover.{canLeave, handedFrom}
 use Rattle.telling.specs.Overruns.{overrunsAt, overrunsTo}
 use Rattle.telling.specs.Queued.{turnBytes, handedBytes}
 use Rattle.basics.proofs.Cases.{two-by-cases, neither-first, neither-second}

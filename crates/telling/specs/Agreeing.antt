@@ -7,7 +7,7 @@ use mathlib.Core.List.{List}
 use lib.ListN.{getD}
 use Rattle.keys.specs.Keys.{lastKey}
 use Rattle.contacts.specs.Scans.{contact}
-use Rattle.record.specs.declared.Keys.{Keys}
+use Rattle.record.specs.Views.{Keys}
 
 -- The held keys are those whose contacts count as closed; a key that stands nowhere on the map is not held.
 pub record Agrees (map closed held : List ℕ) : Type 0 where

@@ -11,7 +11,7 @@ use Rattle.contacts.specs.Scans.{contact}
 use Rattle.keying.specs.Moves.{turnsTo}
 use Rattle.queue.specs.Queues.{waiting, hasRoom}
 use Rattle.record.specs.declared.Mode.{Mode}
-use Rattle.record.specs.declared.Keys.{Keys}
+use Rattle.record.specs.Views.{Keys}
 use Rattle.sending.specs.Sending.{sends}
 
 -- What a key does whose contact turned: to closed (1) it is pressed, to open (0) released.

@@ -11,7 +11,7 @@ use Rattle.contacts.specs.Scans.{contact}
 use Rattle.keying.specs.Moves.{released, turnsTo}
 use Rattle.keying.specs.Handover.{canLeave}
 use Rattle.record.specs.declared.Mode.{Mode}
-use Rattle.record.specs.declared.Keys.{Keys}
+use Rattle.record.specs.Views.{Keys}
 use Rattle.record.specs.Held.{isHeld}
 use Rattle.sending.specs.Sending.{sends}
 use Rattle.telling.specs.Overruns.{actionTo}

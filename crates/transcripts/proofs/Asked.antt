@@ -4,7 +4,7 @@ use lib.Count.{ones, onesIn}
 use mathlib.Core.Bool.{true}
 use Rattle.basics.specs.Lists.{allUpTo, same}
 use Rattle.record.specs.Power.{countUp, plainMap, defaultTypes, freshWith, powerOn}
-use Rattle.range.specs.Range.{inRange, goodMode, goodKeys}
+use Rattle.range.specs.Range.{inRange, goodRest, goodMode, goodOutgoing}
 use Rattle.record.specs.Held.{modifiersOf}
 use Rattle.queue.specs.Queues.{waiting, queueOf, tidy, pushedTo, lastReplaced}
 use Rattle.replies.specs.Replies.{waitingReplies, repliesOf, tidyReplies}
@@ -36,7 +36,7 @@ pub all-asked : comeOut replyOf dialogues ≡ true
 unfolding
     ones onesIn
     allUpTo same
-    countUp plainMap defaultTypes freshWith powerOn inRange goodMode goodKeys modifiersOf
+    countUp plainMap defaultTypes freshWith powerOn inRange goodRest goodMode goodOutgoing modifiersOf
     waiting queueOf tidy waitingReplies repliesOf tidyReplies pushedTo lastReplaced
     rows rowOf codeIn
     keyWith firstWith

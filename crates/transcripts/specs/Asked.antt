@@ -4,7 +4,7 @@ use mathlib.Core.List.{List, [], _∷_, _++_}
 use lib.ListN.{replicate}
 use Rattle.frames.specs.Frames.{packedOf}
 use Rattle.record.specs.Power.{plainMap}
-use Rattle.runs.specs.Calls.{Call, Scan, Swap, Frame}
+use Rattle.dock.specs.Calls.{Call, Scan, Swap, Frame}
 use Rattle.runs.specs.Stories.{reads, scans, showing}
 use Rattle.transcripts.specs.Transcripts.{Transcript, transcript}
 

@@ -15,7 +15,7 @@ use Rattle.dock.specs.Frame.{frameOf}
 use Rattle.dock.specs.Read.{readOf}
 use Rattle.record.specs.declared.Dock.{Dock}
 use Rattle.record.specs.Power.{powerOn}
-use Rattle.runs.specs.Calls.{Call, Scan, Swap, Frame, Read}
+use Rattle.dock.specs.Calls.{Call, Scan, Swap, Frame, Read}
 
 -- One call: what it gives, and the dock after it. Only a read gives something.
 abbrev pub called : Dock → Call → Taken

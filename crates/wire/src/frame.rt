@@ -14,10 +14,9 @@ ghost use mathlib.Core.Path.{_≡_};
 ghost use mathlib.Core.Bool.{true};
 ghost use mathlib.Core.List.{List};
 ghost use Prim.Native.Nat.{ℕ};
-ghost use Rattle.record.specs.Apart.{dockWith};
-ghost use Rattle.range.specs.Range.{inRange};
+ghost use Rattle.record.specs.Parts.{dockWith};
+ghost use Rattle.range.specs.Range.{goodRest, inRange};
 ghost use Rattle.dock.specs.Answers.{answeredWith};
-ghost use Rattle.dock.specs.Closing.{restInRange};
 ghost use Rattle.dock.specs.Frame.{frameOf};
 
 // The frame call in place, of a record in its range, whatever the map is.
@@ -29,7 +28,7 @@ pub fn frame_in_place(
     rest: Rest,
     number: u32,
 ) -> AnsweredRest
-    requires { ⌜ restInRange (now held) (now types) rest ≡ true ⌝ }
+    requires { ⌜ goodRest rest ≡ true ⌝ }
     ensures { λ r. ⌜ ((map : List ℕ)
         → inRange (dockWith map (now (closed .entry)) (now (counts .entry)) (now (held .entry)) (now (types .entry)) rest) ≡ true
         → answeredWith map (now (closed .exit)) (now (counts .exit)) (now (held .exit)) (now (types .exit)) r

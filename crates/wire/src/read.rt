@@ -10,10 +10,10 @@ ghost use mathlib.Core.Bool.{true};
 ghost use mathlib.Core.List.{List};
 ghost use Prim.Native.Nat.{ℕ, _≤_};
 ghost use Rattle.record.specs.declared.Dock.{Dock};
-ghost use Rattle.record.specs.Apart.{dockWith, RestAfter};
-ghost use Rattle.range.specs.Range.{inRange};
+ghost use Rattle.record.specs.Parts.{dockWith};
+ghost use Rattle.record.specs.InPlace.{RestAfter};
+ghost use Rattle.range.specs.Range.{goodRest, inRange};
 ghost use Rattle.dock.specs.Answers.{takenWith};
-ghost use Rattle.dock.specs.Closing.{restInRange};
 ghost use Rattle.dock.specs.Read.{remembering, replyTaken, keyByteTaken, readOf};
 
 // A byte was given.
@@ -30,7 +30,7 @@ fn remember(rest: Rest, byte: u8) -> Rest
 
 // The oldest reply.
 fn take_reply(held: &mut Held, types: &Types, rest: Rest) -> TakenRest
-    requires { ⌜ (restInRange (now held) (now types) rest ≡ true) × (1 ≤ rest .replies .length) ⌝ }
+    requires { ⌜ (goodRest rest ≡ true) × (1 ≤ rest .replies .length) ⌝ }
     ensures { λ r. ⌜ ((map closed counts : List ℕ)
         → takenWith map closed counts (now (held .exit)) (now (types .entry)) r
         ≡ replyTaken (dockWith map closed counts (now (held .entry)) (now (types .entry)) rest)) ⌝ }
@@ -47,7 +47,7 @@ fn take_reply(held: &mut Held, types: &Types, rest: Rest) -> TakenRest
 
 // The oldest key byte.
 fn take_key_byte(held: &mut Held, types: &Types, rest: Rest) -> TakenRest
-    requires { ⌜ (restInRange (now held) (now types) rest ≡ true) × (1 ≤ rest .outgoing .queue .length) ⌝ }
+    requires { ⌜ (goodRest rest ≡ true) × (1 ≤ rest .outgoing .queue .length) ⌝ }
     ensures { λ r. ⌜ ((map closed counts : List ℕ)
         → takenWith map closed counts (now (held .exit)) (now (types .entry)) r
         ≡ keyByteTaken (dockWith map closed counts (now (held .entry)) (now (types .entry)) rest)) ⌝ }
@@ -66,7 +66,7 @@ fn take_key_byte(held: &mut Held, types: &Types, rest: Rest) -> TakenRest
 
 // The read call in place, of a record in its range, whatever the map and the contacts are.
 pub fn read_in_place(held: &mut Held, types: &Types, rest: Rest) -> TakenRest
-    requires { ⌜ restInRange (now held) (now types) rest ≡ true ⌝ }
+    requires { ⌜ goodRest rest ≡ true ⌝ }
     ensures { λ r. ⌜ ((map closed counts : List ℕ)
         → inRange (dockWith map closed counts (now (held .entry)) (now (types .entry)) rest) ≡ true
         → takenWith map closed counts (now (held .exit)) (now (types .entry)) r

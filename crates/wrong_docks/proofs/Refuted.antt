@@ -5,11 +5,11 @@ use lib.Count.{ones, onesIn}
 use mathlib.Core.List.{List, [], _∷_, map}
 use Rattle.basics.specs.Lists.{allUpTo, same}
 use Rattle.record.specs.Power.{countUp, plainMap, defaultTypes, freshWith, powerOn}
-use Rattle.range.specs.Range.{inRange, goodMode, goodKeys}
+use Rattle.range.specs.Range.{inRange, goodRest, goodMode, goodOutgoing}
 use Rattle.record.specs.Held.{modifiersOf}
 use Rattle.queue.specs.Queues.{waiting, queueOf, tidy, pushedTo, lastReplaced}
 use Rattle.replies.specs.Replies.{waitingReplies, repliesOf, tidyReplies}
-use Rattle.keys.specs.Keys.{rows, rowOf, codeIn}
+use Rattle.keys.specs.Keys.{rows, rowOf, codeIn, lastKey}
 use Rattle.lookup.specs.Lookup.{keyWith, firstWith}
 use Rattle.codes.specs.Codes.{encode, bytesOf, formOf, cursorForm, shiftForm, printForm, pauseForm, before, after, makeOf, breakOf, prefix, codeOf, sendsRelease, mayRepeat, pauseBytes}
 use Rattle.contacts.specs.Scans.{contact}
@@ -32,13 +32,14 @@ use Rattle.reader.specs.Reader.{heard, inSet1, inSet2, inSet3, readByte}
 use Rattle.history.specs.Rows.{threeFirst, threeInARow, saysClosed}
 use Rattle.history.specs.Scans.{shownAt, saysHeldFrom, saysHeld}
 use Rattle.telling.specs.Queued.{moveBytes, turnBytesAt, turnBytes}
-use Rattle.terminal.specs.Terminals.{begun, hears}
-use Rattle.runs.specs.Calls.{clears, isClearing}
+use Rattle.terminal.specs.Terminals.{begun, hears, isDown}
+use Rattle.dock.specs.Calls.{Call}
+use Rattle.runs.specs.Clearing.{clears, isClearing}
 use Rattle.runs.specs.Onlookers.{atPowerOn, isCountedBy, sawScan, isMap, sawSwap, scanningAfter, waitingAfter, setAfter, sawByte}
 use Rattle.runs.specs.Rules.{oneOf, numbersFrom, inCommon, sharesTwo, looksPhantom, setThreeCodes, valuesFor, waitsForValue}
-use Rattle.runs.specs.Machines.{lowestFrom, findsNoRoom, keyLeft}
-use Rattle.runs.specs.Worlds.{woken, next, afterCalls}
-use Rattle.runs.specs.Runs.{noneHeldFrom, mayBegin, turningBytes, overruns, undisturbed}
+use Rattle.runs.specs.Machines.{lowestFrom, findsNoRoom, keyLeft, Machine, nothingWaits}
+use Rattle.runs.specs.Worlds.{woken, next, afterCalls, scansSay}
+use Rattle.runs.specs.Runs.{noneHeldFrom, mayBegin, turningBytes, overruns, undisturbed, beginning}
 use mathlib.Core.Bool.{Bool, true, false, not, false≢true}
 use Prim.Native.Nat.{ℕ, zero, suc, _<_}
 use native.Mathlib.Nat.{le-of-suc-le-suc, not-suc-le-zero}
@@ -47,16 +48,10 @@ use lib.Dec.{eqb, leb}
 use lib.ListN.{length, getD}
 use Rattle.basics.specs.Choice.{both, between}
 use Rattle.basics.proofs.Flags.{left-of-both, right-of-both}
-use Rattle.keys.specs.Keys.{lastKey}
 use Rattle.keys.specs.Named.{pauseKey}
-use Rattle.runs.specs.Calls.{Call}
 use Rattle.runs.specs.Demand.{endOf, ThirdDemand}
-use Rattle.runs.specs.Machines.{Machine, nothingWaits}
-use Rattle.runs.specs.Runs.{beginning}
 use Rattle.runs.specs.Stories.{host, nothing, showing, showingToo}
 use Rattle.runs.specs.Told.{twelve}
-use Rattle.runs.specs.Worlds.{scansSay}
-use Rattle.terminal.specs.Terminals.{isDown}
 use Rattle.wrong_docks.specs.Breaking.{Wrong, differ, breaks}
 use Rattle.wrong_docks.specs.AtScans.{countsWhileCommandWaits, countsWhileScanningOff, countsDuringHandover, countsPhantoms, countsTwice, phantomNextDoor, twoOpenAreEnough, takesShortScans, phantomBreaksRow, passedOverBreaksRow, handlesFirstScanOnly, deafWhileReplyWaits, deafWhileFull, queueOf15, sendsNothing, repeatGoesOnAfterRelease, repeatsOverrun}
 use Rattle.wrong_docks.specs.AtSwaps.{keepsHeldKeys, forgetsHeldKeys, dropsReleases, swapOverruns, handsWhenEmpty, deafAfterSwap, keepsOldMap, keepsHistory, keepsRepeating, swapClearsQueue, secondSwapIgnored, secondSwapEndsHandover, takesDoubles}
@@ -123,7 +118,7 @@ all-break : map breaksOwn wrongDocks ≡ map (λ (w : Wrong). true) wrongDocks
 unfolding
     ones onesIn
     allUpTo same
-    countUp plainMap defaultTypes freshWith powerOn inRange goodMode goodKeys modifiersOf
+    countUp plainMap defaultTypes freshWith powerOn inRange goodRest goodMode goodOutgoing modifiersOf
     waiting queueOf tidy waitingReplies repliesOf tidyReplies pushedTo lastReplaced
     rows rowOf codeIn
     keyWith firstWith

@@ -8,7 +8,8 @@ use Rattle.contacts.specs.Counts.{contacts, unseen}
 use Rattle.dock.specs.Frame.{frameOf}
 use Rattle.frames.specs.Frames.{packedOf}
 use Rattle.queue.specs.Queues.{waiting, queueOf}
-use Rattle.record.specs.Parts.{keys, withMap, withContacts, withKeys, withMode, withScanning, withWaiting, withHandover, withQueue}
+use Rattle.record.specs.Views.{withQueue, keysOf, keys, contactsOf}
+use Rattle.record.specs.Parts.{withWaiting, withMode, withContacts, withScanning, withKeys, withMap, withHandover}
 use Rattle.record.specs.Power.{plainMap}
 use Rattle.record.specs.declared.Dock.{Dock}
 use Rattle.runs.specs.Machines.{Machine}
@@ -24,7 +25,7 @@ deafAfterIdentify = atByte 0xf2 (λ d e. withWaiting e 0xed)
 
 -- A dock with the set of another.
 abbrev pub withSetOf : Dock → Dock → Dock
-withSetOf d e = withMode e (record { set = d .mode .set; rate = e .mode .rate; indicators = e .mode .indicators })
+withSetOf d e = withMode e (record { set = d .rest .mode .set; rate = e .rest .mode .rate; indicators = e .rest .mode .indicators })
 
 -- F6 keeps the set,
 unfoldable pub defaultKeepsTheSet : Machine
@@ -40,21 +41,21 @@ enableForgetsHistory = atByte 0xf4 (λ d e. withContacts e unseen)
 
 -- F5 leaves scanning on.
 unfoldable pub disableKeepsScanning : Machine
-disableKeepsScanning = atByte 0xf5 (λ d e. withScanning e (d .scanning))
+disableKeepsScanning = atByte 0xf5 (λ d e. withScanning e (d .rest .scanning))
 
 -- ED clears the queue.
 unfoldable pub indicatorsClear : Machine
-indicatorsClear = atByte 0xed (λ d e. withKeys e (withQueue (e .keys) (queueOf [])))
+indicatorsClear = atByte 0xed (λ d e. withKeys e (withQueue (keysOf e) (queueOf [])))
 
 -- The value of F0 chooses no set.
 unfoldable pub setNotChosen : Machine
-setNotChosen = framingBy (λ (d : Dock) (number : ℕ). let e = frameOf d number .dock in pick (eqb (d .waiting) 0xf0) (withSetOf d e) e)
+setNotChosen = framingBy (λ (d : Dock) (number : ℕ). let e = frameOf d number .dock in pick (eqb (d .rest .waiting) 0xf0) (withSetOf d e) e)
 
 -- A wrong value ends the wait for the right one,
 unfoldable pub wrongValueEndsWait : Machine
 wrongValueEndsWait =
     framingBy (λ (d : Dock) (number : ℕ).
-    let e = frameOf d number .dock in pick (both (eqb number (packedOf 0x80)) (eqb (d .waiting) 0xf3)) (withWaiting e 0) e)
+    let e = frameOf d number .dock in pick (both (eqb number (packedOf 0x80)) (eqb (d .rest .waiting) 0xf3)) (withWaiting e 0) e)
 
 -- FE does,
 unfoldable pub resendEndsWait : Machine
@@ -66,7 +67,7 @@ brokenEndsWait = framingBy (λ (d : Dock) (number : ℕ). let e = frameOf d numb
 
 -- or EF does not.
 unfoldable pub efLeavesWait : Machine
-efLeavesWait = atByte 0xef (λ d e. withWaiting e (d .waiting))
+efLeavesWait = atByte 0xef (λ d e. withWaiting e (d .rest .waiting))
 
 -- The reset brings back the plain map,
 unfoldable pub resetLosesMap : Machine
@@ -74,17 +75,17 @@ resetLosesMap = atByte 0xff (λ d e. withMap e plainMap)
 
 -- leaves scanning off,
 unfoldable pub resetKeepsScanningOff : Machine
-resetKeepsScanningOff = atByte 0xff (λ d e. withScanning e (d .scanning))
+resetKeepsScanningOff = atByte 0xff (λ d e. withScanning e (d .rest .scanning))
 
 -- or keeps the contact history.
 unfoldable pub resetKeepsHistory : Machine
-resetKeepsHistory = atByte 0xff (λ d e. withContacts e (d .contacts))
+resetKeepsHistory = atByte 0xff (λ d e. withContacts e (contactsOf d))
 
 -- A handover does not go on at a frame.
 unfoldable pub framesLeaveHandover : Machine
 framesLeaveHandover =
     framingBy (λ (d : Dock) (number : ℕ).
-    pick (d .handover) (withHandover (frameOf (withHandover d false) number .dock) true) (frameOf d number .dock))
+    pick (d .rest .handover) (withHandover (frameOf (withHandover d false) number .dock) true) (frameOf d number .dock))
 
 -- Parity is not looked at.
 unfoldable pub anyParity : Machine

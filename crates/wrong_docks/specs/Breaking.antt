@@ -6,7 +6,7 @@ use lib.Dec.{eqb}
 use Rattle.basics.specs.Choice.{both, between}
 use Rattle.keys.specs.Keys.{lastKey}
 use Rattle.keys.specs.Named.{pauseKey}
-use Rattle.runs.specs.Calls.{Call}
+use Rattle.dock.specs.Calls.{Call}
 use Rattle.runs.specs.Machines.{Machine, nothingWaits}
 use Rattle.runs.specs.Worlds.{woken, afterCalls, scansSay}
 use Rattle.runs.specs.Runs.{mayBegin, beginning, undisturbed}

@@ -5,7 +5,7 @@ use mathlib.Core.List.{List, [], _∷_, _++_}
 use lib.ListN.{replicate, set}
 use Rattle.frames.specs.Frames.{packedOf}
 use Rattle.record.specs.Power.{plainMap}
-use Rattle.runs.specs.Calls.{Call, Swap, Frame}
+use Rattle.dock.specs.Calls.{Call, Swap, Frame}
 use Rattle.runs.specs.Stories.{reads, host, scans, nothing, showing, showingToo}
 use Rattle.runs.specs.Told.{twelve}
 use Rattle.wrong_docks.specs.Breaking.{Wrong, wrong}

@@ -8,7 +8,7 @@ use borrow.Author.Needs.{needs}
 use lib.ListN.{length}
 use Rattle.lines.proofs.InRange.{stepped-in-range}
 use Rattle.lines.proofs.Lengths.{stepped-lengths}
-use Rattle.record.specs.Apart.{dockWith}
+use Rattle.record.specs.Parts.{dockWith}
 use Rattle.range.specs.Range.{inRange}
 use Rattle.text.proofs.Newlines.{line-end-after, line-end-within}
 use Rattle.printing.proofs.Prints.{few}

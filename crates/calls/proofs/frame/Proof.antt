@@ -1,58 +1,20 @@
--- `calls::frame` meets its contract: a record in its range is taken apart, the frame is taken in place, and put together. Assumes nothing.
-use mathlib.Core.Path.{sym, _∙_}
+-- `calls::frame` meets its contract: a record in its range is given the frame in place. Assumes nothing.
 use borrow.Author.Needs.{needs}
-use borrow.Author.Tests.{not-true, not-false}
 use Rattle.basics.proofs.Once.{answering}
-use Rattle.record.specs.declared.Dock.{Dock}
-use Rattle.dock.specs.declared.Answered.{Answered}
-use Rattle.dock.specs.Answers.{answered}
-use Rattle.dock.specs.Frame.{frameOf}
-use Rattle.dock.proofs.InRange.{rest-in-range, apart-in-range}
+use Rattle.range.proofs.Ranges.{found-good, found-bad, in-range-rest}
 use Rattle.dock.proofs.Framing.{frame-bad-record}
 use Rattle.dock.proofs.Saying.{frame-says}
-use Rattle.record.proofs.Whole.{put-together}
 use Rattle.calls.proofs.frame.Statement.{statement}
 use Rattle.calls.proofs.frame.Tie as tie
 
-in-range-requires : tie.Need-in-range-requires
-in-range-requires c κs = search needs
-
 returns : tie.Need-returns
-returns c = answering (frame-says _ _) (frame-bad-record _ _ (sym (c .before .in-range .ensures) ∙ not-true _ (c .if1 .taken)))
-
-rest-of-requires : tie.Need-rest-of-requires
-rest-of-requires c κs = search needs
+returns c = answering (frame-says _ _) (frame-bad-record _ _ (found-bad _ _ (c .before .in-range .ensures) (c .if1 .taken)))
 
 frame-in-place-requires : tie.Need-frame-in-place-requires
-frame-in-place-requires c κs =
-    let rest = c .before .before .before .before in
-    let looked = rest .before .before .before .before .before .before .before .before in
-    let s = looked .before .before in
-    let d = s .args .dock in
-    let known = apart-in-range d _ _ (rest .rest-of .ensures) (looked .before .in-range .ensures) (not-false _ (looked .if1 .left)) in
-    rest-in-range (d .map) (d .contacts .closed) (d .contacts .counts) (d .keys .held) (d .types) _ known
-
-dock-with-requires : tie.Need-dock-with-requires
-dock-with-requires c κs = search needs
+frame-in-place-requires c κs = search (needs, in-range-rest, found-good)
 
 returns-2 : tie.Need-returns-2
-returns-2 c =
-    let x = c .before .before .frame-in-place in
-    let rest = c .before .before .before .before .before .before .before in
-    let looked = rest .before .before .before .before .before .before .before .before in
-    let a = looked .before .before .args in
-    let d = a .dock in
-    answering (frame-says _ _)
-    (put-together Answered (λ (e : Dock). answered (x .result .answer) e) (λ (e : Dock). frameOf e (a .number)) d _ _ _ (rest .rest-of .ensures) (c .dock-with .ensures)
-    (x .ensures (d .map) (apart-in-range d _ _ (rest .rest-of .ensures) (looked .before .in-range .ensures) (not-false _ (looked .if1 .left)))))
+returns-2 c = answering (frame-says _ _) (c .before .frame-in-place .ensures _ (search (needs, found-good)))
 
 pub frame-spec : {M : Type 1} → statement M
-frame-spec =
-    tie.close
-    (tie.spec
-    in-range-requires
-    returns
-    rest-of-requires
-    frame-in-place-requires
-    dock-with-requires
-    returns-2)
+frame-spec = tie.close (tie.spec (λ c κs. search needs) returns frame-in-place-requires returns-2)

@@ -1,6 +1,6 @@
 -- `commands::command` meets its contract: its steps are those of the definition. Assumes nothing.
 use borrow.Author.Needs.{needs}
-use Rattle.record.specs.Apart.{dockWith}
+use Rattle.record.specs.Parts.{dockWith}
 use Rattle.commands.proofs.Rows.{command-waits, command-done}
 use Rattle.commands.proofs.command.Statement.{statement}
 use Rattle.commands.proofs.command.Tie as tie

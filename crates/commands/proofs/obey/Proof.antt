@@ -2,7 +2,7 @@
 use mathlib.Core.Path.{_∙_}
 use native.Mathlib.Omega.{arith}
 use borrow.Author.Needs.{needs}
-use Rattle.record.specs.Apart.{dockWith}
+use Rattle.record.specs.Parts.{dockWith}
 use Rattle.commands.specs.Commands.{obeyed}
 use Rattle.commands.proofs.Rows.{obeyed-below, obeyed-types, obeyed-key-type, obeyed-above}
 use Rattle.commands.proofs.obey.Statement.{statement}

@@ -12,7 +12,7 @@ fresh-rest-requires c κs = search needs
 
 returns : tie.Need-returns
 unfolding freshWith
-returns c = λ map. rw (c .fresh-rest .ensures map, c .before .before .default-types .ensures)
+returns c = λ map. rw (c .fresh-rest .ensures, c .before .before .default-types .ensures)
 
 pub reset-spec : {M : Type 1} → statement M
 reset-spec = tie.close (tie.spec default-types-requires fresh-rest-requires returns)

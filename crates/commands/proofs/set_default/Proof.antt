@@ -5,7 +5,7 @@ use Prim.Native.Nat.{ℕ}
 use borrow.Author.Needs.{needs}
 use Rattle.record.specs.declared.Dock.{Dock}
 use Rattle.record.specs.Power.{defaultRate}
-use Rattle.record.specs.Parts.{withMode, withTypes}
+use Rattle.record.specs.Parts.{withTypes, withMode}
 use Rattle.commands.proofs.set_default.Statement.{statement}
 use Rattle.commands.proofs.set_default.Tie as tie
 

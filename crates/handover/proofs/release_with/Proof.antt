@@ -2,7 +2,7 @@
 use mathlib.Core.Path.{ap, _∙_}
 use borrow.Author.Needs.{needs}
 use Rattle.queue.specs.declared.Queue.{Queue}
-use Rattle.record.specs.Apart.{keysWith}
+use Rattle.record.specs.Views.{keysWith}
 use Rattle.range.proofs.Ranges.{good-keys-queue}
 use Rattle.keying.specs.Moves.{letGo, releasedWith}
 use Rattle.handover.proofs.release_with.Statement.{statement}

@@ -1,7 +1,7 @@
 -- `host::take` meets its contract: its three ways are those of the definition. Assumes nothing.
 use mathlib.Core.Path.{_∙_}
 use borrow.Author.Needs.{needs}
-use Rattle.record.specs.Apart.{dockWith}
+use Rattle.record.specs.Parts.{dockWith}
 use Rattle.host.proofs.Rows.{took-resend, took-value, took-command}
 use Rattle.host.proofs.take.Statement.{statement}
 use Rattle.host.proofs.take.Tie as tie

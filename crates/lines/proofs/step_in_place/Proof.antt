@@ -1,7 +1,8 @@
 -- `lines::step_in_place` meets its contract: the kind of the line decides, and gives the digits that each call asks for. Assumes nothing.
 use mathlib.Core.Path.{refl, sym, _∙_}
 use borrow.Author.Needs.{needs}
-use Rattle.dock.proofs.InRange.{rest-in-range}
+use Rattle.record.specs.Parts.{dockWith}
+use Rattle.range.proofs.Ranges.{in-range-rest}
 use Rattle.text.specs.declared.Kind.the-variants.{Read, Frame, Scan, Map, Malformed}
 use Rattle.text.proofs.Lengths.{scan-is, frame-is, map-is}
 use Rattle.lines.proofs.Printing.{by-kind}
@@ -28,7 +29,7 @@ read-line-requires : tie.Need-read-line-requires
 read-line-requires c κs =
     let s = c .before .before .before .before .before .before in
     let a = s .args in
-    rest-in-range (a .map .now) (a .closed .now) (a .counts .now) (a .held .now) (a .types .now) (a .rest) (s .pre .0)
+    in-range-rest (dockWith (a .map .now) (a .closed .now) (a .counts .now) (a .held .now) (a .types .now) (a .rest)) (s .pre .0)
 
 enum-told-3 : tie.Need-enum-told-3
 enum-told-3 c = search needs
@@ -39,7 +40,7 @@ frame-line-requires c κs =
     let s = told .before .before .before .before in
     let a = s .args in
     let is = frame-is (a .line .now) (sym (told .before .before .kind-of .ensures) ∙ told .enum-told3 .given .1) in
-    (rest-in-range (a .map .now) (a .closed .now) (a .counts .now) (a .held .now) (a .types .now) (a .rest) (s .pre .0), is .0, is .1)
+    (in-range-rest (dockWith (a .map .now) (a .closed .now) (a .counts .now) (a .held .now) (a .types .now) (a .rest)) (s .pre .0), is .0, is .1)
 
 enum-told-4 : tie.Need-enum-told-4
 enum-told-4 c = search needs

@@ -9,7 +9,7 @@ use lib.Count.{trailing-le}
 use lib.ListN.{length}
 use Rattle.basics.proofs.Limits.{up-to-at}
 use Rattle.keys.specs.Keys.{lastKey}
-use Rattle.record.specs.declared.Keys.{Keys}
+use Rattle.record.specs.Views.{Keys}
 use Rattle.range.specs.Range.{goodKeys}
 use Rattle.keying.specs.Moves.{keysFrom, rowsTo}
 use Rattle.keying.proofs.Good.{moved-good}

@@ -7,8 +7,7 @@ use native.Mathlib.Omega.{arith}
 use borrow.Author.Needs.{needs}
 use lib.ListN.{length}
 use Rattle.queue.proofs.Meaning.{tidy-short}
-use Rattle.record.specs.declared.Keys.{Keys}
-use Rattle.record.specs.Apart.{keysWith}
+use Rattle.record.specs.Views.{Keys, keysWith}
 use Rattle.range.specs.Range.{goodKeys}
 use Rattle.range.proofs.Ranges.{good-keys-queue}
 use Rattle.keying.specs.Moves.{keysFrom, turnsTo}

@@ -1,7 +1,7 @@
 -- `scan::change` meets its contract: at rest, and where the scan is phantom, nothing changes; else the scan is counted. Assumes nothing.
 use native.Mathlib.Omega.{arith}
 use borrow.Author.Needs.{needs}
-use Rattle.record.specs.Apart.{dockWith}
+use Rattle.record.specs.Parts.{dockWith}
 use Rattle.dock.proofs.Resting.{rest-changes-nothing}
 use Rattle.dock.proofs.Scanning.{phantom-changes-nothing, believed-is-counted}
 use Rattle.scan.proofs.change.Statement.{statement}

@@ -1,7 +1,8 @@
 -- `scan::count` meets its contract: the contacts and then the keys, as the definition has them. Assumes nothing.
 use borrow.Author.Needs.{needs}
 use Rattle.contacts.specs.Counts.{contacts}
-use Rattle.record.specs.Apart.{keysWith, dockWith}
+use Rattle.record.specs.Views.{keysWith}
+use Rattle.record.specs.Parts.{dockWith}
 use Rattle.range.proofs.Ranges.{in-range-map, in-range-keys, in-range-mode}
 use Rattle.dock.proofs.Scanning.{counted-by-parts}
 use Rattle.scan.proofs.count.Statement.{statement}

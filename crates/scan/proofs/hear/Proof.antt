@@ -1,11 +1,11 @@
 -- `scan::hear` meets its contract: the repeat follows the changes, and they the tick. Assumes nothing.
 use mathlib.Core.Path.{ap, _∙_}
 use borrow.Author.Needs.{needs}
-use Rattle.record.specs.declared.Keys.{Keys}
-use Rattle.record.specs.Apart.{keysWith, dockWith}
-use Rattle.record.specs.Parts.{withKeys}
+use Rattle.record.specs.Views.{keysWith, Keys}
+use Rattle.record.specs.Parts.{dockWith, withKeys}
+use Rattle.range.proofs.Ranges.{in-range-rest}
 use Rattle.dock.specs.Scan.{changed}
-use Rattle.dock.proofs.InRange.{rest-in-range, ticked-in-range, changed-leaves-range}
+use Rattle.dock.proofs.InRange.{ticked-in-range, changed-leaves-range}
 use Rattle.dock.proofs.Scanning.{heard-whole}
 use Rattle.scan.proofs.hear.Statement.{statement}
 use Rattle.scan.proofs.hear.Tie as tie
@@ -26,7 +26,7 @@ repeat-requires c κs =
     let tick = c .before .before .before .before .before in
     let s = tick .before .before .before in
     let a = s .args in
-    rest-in-range (a .map .now) (after .last .1 .0) (after .last .1 .1 .0) (after .last .1 .1 .1 .0) (a .types .now) (after .result)
+    in-range-rest (dockWith (a .map .now) (after .last .1 .0) (after .last .1 .1 .0) (after .last .1 .1 .1 .0) (a .types .now) (after .result))
     (changed-leaves-range (dockWith (a .map .now) (a .closed .now) (a .counts .now) (a .held .now) (a .types .now) (a .rest)) (s .pre .0) _ (ap (keysWith (a .held .now)) (tick .tick .ensures)) (a .scan .now) _ (after .ensures))
 
 returns : tie.Need-returns

@@ -1,5 +1,5 @@
 -- `scan::is_listening` meets its contract: its tests are those of the definition. Assumes nothing.
-use Rattle.record.specs.Apart.{dockWith}
+use Rattle.record.specs.Parts.{dockWith}
 use Rattle.dock.proofs.Scanning.{joined-listening}
 use Rattle.scan.proofs.is_listening.Statement.{statement}
 use Rattle.scan.proofs.is_listening.Tie as tie

@@ -1,7 +1,7 @@
 -- `scan::repeat` meets its contract: its test is the definition's. Assumes nothing.
-use mathlib.Core.List.{[]}
-use Rattle.record.specs.Apart.{keysWith, dockWith}
-use Rattle.range.proofs.Ranges.{in-range-keys, in-range-mode}
+use Rattle.record.specs.Views.{keysWith}
+use Rattle.record.specs.Parts.{dockWith}
+use Rattle.range.proofs.Ranges.{good-rest-outgoing, good-rest-mode}
 use Rattle.dock.proofs.Scanning.{repeated-when-quiet}
 use Rattle.scan.proofs.repeat.Statement.{statement}
 use Rattle.scan.proofs.repeat.Tie as tie
@@ -9,9 +9,7 @@ use Rattle.scan.proofs.repeat.Tie as tie
 repeat-requires : tie.Need-repeat-requires
 repeat-requires c κs =
     let s = c .before .before .before .before .before .before in
-    let a = s .args in
-    let d = dockWith [] [] [] (a .held .now) (a .types .now) (a .rest) in
-    (in-range-keys d (s .pre), in-range-mode d (s .pre))
+    (good-rest-outgoing (s .args .rest) (s .pre), good-rest-mode (s .args .rest) (s .pre))
 
 returns : tie.Need-returns
 returns c = λ map closed counts.

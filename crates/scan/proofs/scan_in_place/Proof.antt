@@ -1,8 +1,8 @@
 -- `scan::scan_in_place` meets its contract: at each return the tests so far decide what the definition gives. Assumes nothing.
 use borrow.Author.Needs.{needs}
 use borrow.Author.Tests.{not-true, not-false}
-use Rattle.record.specs.Apart.{dockWith}
-use Rattle.dock.proofs.InRange.{rest-in-range}
+use Rattle.record.specs.Parts.{dockWith}
+use Rattle.range.proofs.Ranges.{in-range-rest}
 use Rattle.dock.proofs.Scanning.{scan-wrong-length, scan-not-heard, scan-heard}
 use Rattle.scan.proofs.scan_in_place.Statement.{statement}
 use Rattle.scan.proofs.scan_in_place.Tie as tie
@@ -20,7 +20,7 @@ close-in-place-requires : tie.Need-close-in-place-requires
 close-in-place-requires c κs =
     let s = c .before .before .before .before .before in
     let a = s .args in
-    rest-in-range (a .map .now) (a .closed .now) (a .counts .now) (a .held .now) (a .types .now) (a .rest) (s .pre .0)
+    in-range-rest (dockWith (a .map .now) (a .closed .now) (a .counts .now) (a .held .now) (a .types .now) (a .rest)) (s .pre .0)
 
 returns-2 : tie.Need-returns-2
 returns-2 c =

@@ -2,7 +2,7 @@
 use borrow.Author.Needs.{needs}
 use Rattle.codes.specs.declared.Action.the-variants.{Press}
 use Rattle.queue.specs.Queues.{queueWith}
-use Rattle.record.specs.Parts.{keys}
+use Rattle.record.specs.Views.{keys}
 use Rattle.record.specs.Held.{modifiersOf}
 use Rattle.sending.specs.Sending.{numLock, sends}
 use Rattle.sending.proofs.Sent.{sequence-short, sequence-is}

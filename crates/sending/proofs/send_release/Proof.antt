@@ -4,7 +4,7 @@ use native.Mathlib.Omega.{arith}
 use borrow.Author.Needs.{needs}
 use Rattle.codes.specs.declared.Action.the-variants.{Release}
 use Rattle.queue.specs.Queues.{queueWith}
-use Rattle.record.specs.Parts.{keys}
+use Rattle.record.specs.Views.{keys}
 use Rattle.record.specs.Held.{modifiersOf}
 use Rattle.queue.proofs.Meaning.{tidy-short}
 use Rattle.range.proofs.Ranges.{good-mode-set}

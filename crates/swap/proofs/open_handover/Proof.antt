@@ -1,5 +1,5 @@
 -- `swap::open_handover` meets its contract: whether a handover is open decides what the definition gives. Assumes nothing.
-use Rattle.record.specs.Apart.{dockWith}
+use Rattle.record.specs.Parts.{dockWith}
 use Rattle.dock.specs.Swap.{opened}
 use Rattle.dock.proofs.Swapping.{second-swap, first-swap}
 use Rattle.swap.proofs.open_handover.Statement.{statement}

@@ -2,8 +2,9 @@
 use mathlib.Core.Path.{sym, _∙_}
 use borrow.Author.Needs.{needs}
 use borrow.Author.Tests.{not-true, not-false}
-use Rattle.record.specs.Apart.{dockWith}
-use Rattle.dock.proofs.InRange.{rest-in-range, swap-leaves-range}
+use Rattle.record.specs.Parts.{dockWith}
+use Rattle.range.proofs.Ranges.{in-range-rest}
+use Rattle.dock.proofs.InRange.{swap-leaves-range}
 use Rattle.dock.proofs.Swapping.{swap-opens, swap-wrong-length, swap-wrong-entry, swap-double, swap-taken}
 use Rattle.swap.proofs.swap_in_place.Statement.{statement}
 use Rattle.swap.proofs.swap_in_place.Tie as tie
@@ -58,7 +59,7 @@ go-on-requires c κs =
     let a = s .args in
     let d = dockWith (a .map .now) (a .closed .now) (a .counts .now) (a .held .now) (a .types .now) (a .rest) in
     let remaps = next .open-handover .ensures (a .map .now) (a .held .now) (a .types .now) (copy .copied .result) in (
-      rest-in-range (copy .copied .result) _ _ (a .held .now) (a .types .now) (next .open-handover .result)
+      in-range-rest (dockWith (copy .copied .result) _ _ (a .held .now) (a .types .now) (next .open-handover .result))
           (swap-leaves-range d (copy .copied .result) (s .pre) (sym (small .before .all-up-to .ensures) ∙ not-false _ (small .if2 .left)) _ remaps),
       swap-opens d (copy .copied .result) _ remaps,
     )

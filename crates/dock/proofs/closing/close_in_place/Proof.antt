@@ -1,6 +1,6 @@
 -- `dock::closing::close_in_place` meets its contract: keys are handed over only while a handover is open. Assumes nothing.
 use borrow.Author.Tests.{not-true, not-false}
-use Rattle.record.specs.Apart.{dockWith}
+use Rattle.record.specs.Parts.{dockWith}
 use Rattle.dock.proofs.Handing.{nothing-to-hand-over}
 use Rattle.dock.proofs.closing.close_in_place.Statement.{statement}
 use Rattle.dock.proofs.closing.close_in_place.Tie as tie

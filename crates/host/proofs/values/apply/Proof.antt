@@ -1,7 +1,7 @@
 -- `host::values::apply` meets its contract: a right value of the last row has a command and a key that fit. Assumes nothing.
 use native.Mathlib.Omega.{arith}
 use borrow.Author.Needs.{needs}
-use Rattle.record.specs.Apart.{dockWith}
+use Rattle.record.specs.Parts.{dockWith}
 use Rattle.host.specs.Values.{valued}
 use Rattle.lookup.proofs.Small.{key-with-small}
 use Rattle.host.proofs.Rows.{valued-type, right-command}

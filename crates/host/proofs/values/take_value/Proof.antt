@@ -2,7 +2,7 @@
 use mathlib.Core.Path.{sym, _∙_}
 use borrow.Author.Tests.{not-true, not-false}
 use borrow.Author.Needs.{needs}
-use Rattle.record.specs.Apart.{dockWith}
+use Rattle.record.specs.Parts.{dockWith}
 use Rattle.host.proofs.Rows.{value-wrong, value-right}
 use Rattle.host.proofs.values.take_value.Statement.{statement}
 use Rattle.host.proofs.values.take_value.Tie as tie

@@ -3,7 +3,7 @@ use native.Mathlib.Omega.{arith}
 use borrow.Author.Needs.{needs}
 use borrow.Author.Tests.{not-true, not-false}
 use Rattle.codes.specs.declared.Action.the-variants.{Repeat}
-use Rattle.record.specs.Apart.{keysWith}
+use Rattle.record.specs.Views.{keysWith}
 use Rattle.range.proofs.Ranges.{good-keys-repeating}
 use Rattle.sending.specs.Sending.{sends}
 use Rattle.sending.proofs.Sent.{sequence-short}

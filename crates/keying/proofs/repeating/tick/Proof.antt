@@ -2,7 +2,7 @@
 use mathlib.Core.Path.{ap}
 use mathlib.Core.List.{[]}
 use borrow.Author.Needs.{needs}
-use Rattle.record.specs.Apart.{outgoingOf, keysWith}
+use Rattle.record.specs.Views.{outgoingOf, keysWith}
 use Rattle.keying.proofs.Due.{countdown-stands}
 use Rattle.keying.proofs.repeating.tick.Statement.{statement}
 use Rattle.keying.proofs.repeating.tick.Tie as tie

@@ -1,6 +1,5 @@
 -- `record::power::fresh_rest` meets its contract: field by field the rest is the definition's. Assumes nothing.
 use borrow.Author.Needs.{needs}
-use Rattle.record.specs.Power.{freshWith}
 use Rattle.record.proofs.power.fresh_rest.Statement.{statement}
 use Rattle.record.proofs.power.fresh_rest.Tie as tie
 
@@ -8,8 +7,7 @@ empty-requires : tie.Need-empty-requires
 empty-requires c κs = search needs
 
 returns : tie.Need-returns
-unfolding freshWith
-returns c = λ map. rw (c .empty .ensures)
+returns c = rw (c .empty .ensures)
 
 pub fresh-rest-spec : {M : Type 1} → statement M
 fresh-rest-spec = tie.close (tie.spec empty-requires returns)

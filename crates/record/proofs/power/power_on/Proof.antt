@@ -5,7 +5,6 @@ use mathlib.Core.Path.{_≡_}
 use native.Mathlib.Omega.{arith}
 use borrow.Author.Needs.{needs}
 use Rattle.record.specs.Parts.{withMap}
-use Rattle.record.specs.Power.{plainMap}
 use Rattle.record.proofs.Filling.{filledTo, filled-none, filled-more, filled-power-on}
 use Rattle.record.proofs.power.power_on.Statement.{statement}
 use Rattle.record.proofs.power.power_on.Tie as tie
@@ -24,9 +23,6 @@ one-requires c κs = search needs
 
 fresh-rest-requires : tie.Need-fresh-rest-requires Inv-loop μ-loop
 fresh-rest-requires c κs = search needs
-
-dock-with-requires : tie.Need-dock-with-requires Inv-loop μ-loop
-dock-with-requires c κs = search needs
 
 loop-holds : tie.Need-loop-holds Inv-loop μ-loop
 loop-holds c = (omega arith, filled-none _)
@@ -47,15 +43,14 @@ loop-less : tie.Need-loop-less Inv-loop μ-loop
 loop-less c = omega arith
 
 loop-again : tie.Need-loop-again Inv-loop μ-loop
-loop-again c = (omega arith, filled-more (c .before .before .dock-with .result) _ _ (c .before .loop .inv .1))
+loop-again c = (omega arith, filled-more _ _ _ (c .before .loop .inv .1))
 
 returns : tie.Need-returns Inv-loop μ-loop
 returns c =
-    let begun = c .before .before in
-    let rest = begun .before in
+    let rest = c .before .before in
     let replies = rest .before in
-    filled-power-on _ _ _ _ _ _ (c .before .loop .inv) (c .loop-test .left) (begun .dock-with .ensures)
-    (replies .before .default-types .ensures) (rest .fresh-rest .ensures plainMap) (replies .one .ensures)
+    filled-power-on _ _ _ _ _ (c .before .loop .inv) (c .loop-test .left)
+    (replies .before .default-types .ensures) (rest .fresh-rest .ensures) (replies .one .ensures)
 
 pub power-on-spec : {M : Type 1} → statement M
 power-on-spec =
@@ -66,7 +61,6 @@ power-on-spec =
     default-types-requires
     one-requires
     fresh-rest-requires
-    dock-with-requires
     loop-holds
     add-dock
     cast-dock

@@ -1,10 +1,9 @@
 -- `wire::frame::frame_in_place` meets its contract: at each return what the frame unpacks to decides what the definition gives. Assumes nothing.
 use mathlib.Core.List.{[]}
 use borrow.Author.Needs.{needs}
-use Rattle.contacts.specs.Counts.{contacts}
-use Rattle.record.specs.Apart.{dockWith}
-use Rattle.range.proofs.Ranges.{in-range-with-contacts}
-use Rattle.dock.proofs.InRange.{rest-in-range, broken-leaves-range, byte-leaves-range}
+use Rattle.record.specs.Parts.{dockWith}
+use Rattle.range.proofs.Ranges.{in-range-rest, alone-in-range}
+use Rattle.dock.proofs.InRange.{broken-leaves-range, byte-leaves-range}
 use Rattle.dock.proofs.Framing.{frame-too-large, frame-broken, frame-byte}
 use Rattle.wire.proofs.frame.frame_in_place.Statement.{statement}
 use Rattle.wire.proofs.frame.frame_in_place.Tie as tie
@@ -25,8 +24,8 @@ close-in-place-requires : tie.Need-close-in-place-requires
 close-in-place-requires c κs =
     let s = c .before .before .before .before .before .before in
     let a = s .args in
-    broken-leaves-range (dockWith [] [] [] (a .held .now) (a .types .now) (a .rest)) (s .pre)
-    (dockWith [] [] [] (a .held .now) (a .types .now) (c .reply .result)) (c .reply .ensures [] [] [] (a .held .now) (a .types .now))
+    let d = dockWith [] [] [] (a .held .now) (a .types .now) (a .rest) in
+    in-range-rest _ (broken-leaves-range d (alone-in-range (a .rest) (s .pre) _ _ _ _) _ (c .reply .ensures [] [] [] (a .held .now) (a .types .now)))
 
 enum-known-unpacked : tie.Need-enum-known-unpacked
 enum-known-unpacked c = search needs
@@ -39,9 +38,8 @@ close-in-place-requires-2 c κs =
     let took = c .before .before in
     let s = took .before .before .before .before .before .before .before .before .before in
     let a = s .args in
-    let known = in-range-with-contacts (dockWith [] [] [] (a .held .now) (a .types .now) (a .rest)) (s .pre) (contacts (a .closed .now) (a .counts .now)) in
-    rest-in-range [] _ _ _ _ (took .take .result)
-    (byte-leaves-range (dockWith [] (a .closed .now) (a .counts .now) (a .held .now) (a .types .now) (a .rest)) known _ _ (took .take .ensures []))
+    let d = dockWith [] (a .closed .now) (a .counts .now) (a .held .now) (a .types .now) (a .rest) in
+    in-range-rest _ (byte-leaves-range d (alone-in-range (a .rest) (s .pre) _ _ _ _) _ _ (took .take .ensures []))
 
 returns : tie.Need-returns
 returns c = λ map known.

@@ -1,6 +1,6 @@
 -- `wire::read::read_in_place` meets its contract: at each return the tests so far decide what the definition gives. Assumes nothing.
 use borrow.Author.Needs.{needs}
-use Rattle.record.specs.Apart.{dockWith}
+use Rattle.record.specs.Parts.{dockWith}
 use Rattle.dock.proofs.Reading.{read-reply, read-key-byte, read-nothing}
 use Rattle.wire.proofs.read.read_in_place.Statement.{statement}
 use Rattle.wire.proofs.read.read_in_place.Tie as tie

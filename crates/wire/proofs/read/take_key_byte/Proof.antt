@@ -1,8 +1,9 @@
 -- `wire::read::take_key_byte` meets its contract: the oldest key byte stands in front, and what is left is in its range. Assumes nothing.
 use mathlib.Core.List.{[]}
 use borrow.Author.Needs.{needs}
-use Rattle.record.specs.Apart.{dockWith}
-use Rattle.range.proofs.Ranges.{in-range-keys, good-keys-queue}
+use Rattle.record.specs.Views.{keysWith}
+use Rattle.record.specs.Parts.{dockWith}
+use Rattle.range.proofs.Ranges.{good-keys-queue, good-rest-outgoing, in-range-rest, alone-in-range}
 use Rattle.dock.proofs.InRange.{key-byte-leaves-range}
 use Rattle.dock.proofs.Reading.{oldest-in-front, key-byte-given}
 use Rattle.wire.proofs.read.take_key_byte.Statement.{statement}
@@ -14,9 +15,7 @@ element-copy-out-byte c = search needs
 popped-requires : tie.Need-popped-requires
 popped-requires c κs =
     let s = c .before .before .before in
-    let a = s .args in
-    let d = dockWith [] [] [] (a .held .now) (a .types .now) (a .rest) in
-    good-keys-queue (d .keys) (in-range-keys d (s .pre .0))
+    good-keys-queue (keysWith [] (s .args .rest .outgoing)) (good-rest-outgoing (s .args .rest) (s .pre .0))
 
 remember-requires : tie.Need-remember-requires
 remember-requires c κs = search needs
@@ -25,8 +24,9 @@ close-in-place-requires : tie.Need-close-in-place-requires
 close-in-place-requires c κs =
     let s = c .before .before .before .before .before .before in
     let a = s .args in
-    key-byte-leaves-range (dockWith [] [] [] (a .held .now) (a .types .now) (a .rest)) (s .pre .0) _ _ _ (c .before .before .popped .ensures)
-    (c .remember .ensures [] [] [] (a .held .now) (a .types .now))
+    let d = dockWith [] [] [] (a .held .now) (a .types .now) (a .rest) in
+    in-range-rest _ (key-byte-leaves-range d (alone-in-range (a .rest) (s .pre .0) _ _ _ _) _ _ _ (c .before .before .popped .ensures)
+    (c .remember .ensures [] [] [] (a .held .now) (a .types .now)))
 
 returns : tie.Need-returns
 returns c = λ map closed counts.

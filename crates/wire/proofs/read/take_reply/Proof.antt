@@ -1,8 +1,8 @@
 -- `wire::read::take_reply` meets its contract: the oldest reply stands in front, and what is left is in its range. Assumes nothing.
 use mathlib.Core.List.{[]}
 use borrow.Author.Needs.{needs}
-use Rattle.record.specs.Apart.{dockWith}
-use Rattle.range.proofs.Ranges.{in-range-replies}
+use Rattle.record.specs.Parts.{dockWith}
+use Rattle.range.proofs.Ranges.{good-rest-replies, in-range-rest, alone-in-range}
 use Rattle.dock.proofs.InRange.{reply-leaves-range}
 use Rattle.dock.proofs.Reading.{oldest-reply-in-front, reply-given}
 use Rattle.wire.proofs.read.take_reply.Statement.{statement}
@@ -14,9 +14,7 @@ element-copy-out-byte c = search needs
 popped-requires : tie.Need-popped-requires
 popped-requires c κs =
     let s = c .before .before in
-    let a = s .args in
-    let d = dockWith [] [] [] (a .held .now) (a .types .now) (a .rest) in
-    (in-range-replies d (s .pre .0), s .pre .1)
+    (good-rest-replies (s .args .rest) (s .pre .0), s .pre .1)
 
 remember-requires : tie.Need-remember-requires
 remember-requires c κs = search needs
@@ -25,8 +23,9 @@ close-in-place-requires : tie.Need-close-in-place-requires
 close-in-place-requires c κs =
     let s = c .before .before .before .before .before in
     let a = s .args in
-    reply-leaves-range (dockWith [] [] [] (a .held .now) (a .types .now) (a .rest)) (s .pre .0) _ _ _ (c .before .before .popped .ensures)
-    (c .remember .ensures [] [] [] (a .held .now) (a .types .now))
+    let d = dockWith [] [] [] (a .held .now) (a .types .now) (a .rest) in
+    in-range-rest _ (reply-leaves-range d (alone-in-range (a .rest) (s .pre .0) _ _ _ _) _ _ _ (c .before .before .popped .ensures)
+    (c .remember .ensures [] [] [] (a .held .now) (a .types .now)))
 
 returns : tie.Need-returns
 returns c = λ map closed counts.

@@ -1,23 +1,12 @@
--- The calls of a dock, and the frames that demand 3 leaves out (docs/RULES.md, section 13). Assumes nothing.
-use Prim.Native.Nat.{ℕ, _%_}
+-- The frames that demand 3 leaves out: they clear the queue (docs/RULES.md, section 13). Assumes nothing.
+use Prim.Native.Nat.{ℕ}
 use mathlib.Core.Bool.{Bool, false}
-use mathlib.Core.List.{List, map}
 use lib.Dec.{eqb}
 use Rattle.basics.specs.Choice.{either, between}
 use Rattle.frames.specs.declared.Unpacked.{Unpacked}
 use Rattle.frames.specs.declared.Unpacked.the-variants.{Byte, Broken, TooLarge}
 use Rattle.frames.specs.Frames.{unpackedOf}
-
--- Any call with anything in it: numbers, as many as there may be, as a scan or a map, and any number as a frame.
-pub data Call : Type 0 where
-  Scan : List ℕ → Call
-  Swap : List ℕ → Call
-  Frame : ℕ → Call
-  Read : Call
-
--- The bytes of a scan: each number counts as the byte that it leaves.
-abbrev pub asBytes : List ℕ → List ℕ
-asBytes scan = map (λ (n : ℕ). n % 256) scan
+use Rattle.dock.specs.Calls.{Call, Scan, Swap, Frame, Read}
 
 -- A host byte that clears the key queue: F0, F4 to FD and FF.
 unfoldable pub clears : ℕ → Bool
