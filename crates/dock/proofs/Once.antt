@@ -7,24 +7,14 @@ use Rattle.basics.proofs.Once.{one-answer}
 use Rattle.record.specs.declared.Dock.{Dock}
 use Rattle.record.specs.declared.Rest.{Rest}
 use Rattle.record.specs.Parts.{dockWith}
-use Rattle.record.specs.InPlace.{HeldAfter}
 use Rattle.record.proofs.Once.{parts-once}
 use Rattle.range.specs.Range.{goodRest, inRange}
 use Rattle.range.proofs.Ranges.{alone-in-range}
-use Rattle.dock.specs.declared.Answer.{Answer}
 use Rattle.dock.specs.declared.Answered.{Answered}
 use Rattle.dock.specs.declared.AnsweredRest.{AnsweredRest}
-use Rattle.dock.specs.declared.Given.{Given}
 use Rattle.dock.specs.declared.Taken.{Taken}
 use Rattle.dock.specs.declared.TakenRest.{TakenRest}
 use Rattle.dock.specs.Answers.{answeredWith, takenWith}
-
--- `HeldAfter`: the flags of held keys are lent.
-pub held-after-once : (f : Dock → Dock) (lent types : List ℕ) (before : Rest) (held held′ : List ℕ) (rest rest′ : Rest)
-    → HeldAfter f lent types before held rest → HeldAfter f lent types before held′ rest′ → (held ≡ held′) × (rest ≡ rest′)
-held-after-once f lent types before held held′ rest rest′ p q =
-    let same = parts-once [] [] [] held types [] [] [] held′ types rest rest′ (p [] [] []) (q [] [] []) in
-    (same .3, same .5)
 
 -- `answeredWith`: an answer beside the record,
 pub answered-once : {stated : Answered} (map closed counts held types map′ closed′ counts′ held′ types′ : List ℕ) (r r′ : AnsweredRest)

@@ -52,7 +52,10 @@ fn is_good_rest(rest: Rest) -> bool
     let outgoing = rest.outgoing;
     let mode = rest.mode;
     let replies = rest.replies;
-    is_good_outgoing(outgoing) & is_good_mode(mode) & replies::is_tidy(replies) & ((rest.waiting == 0) | takes_value(rest.waiting))
+    is_good_outgoing(outgoing)
+        & is_good_mode(mode)
+        & replies::is_tidy(replies)
+        & ((rest.waiting == 0) | takes_value(rest.waiting))
 }
 
 // Every part is in its range: of the arrays only the map has one.

@@ -7,7 +7,7 @@ use Rattle.basics.proofs.Once.{one-answer}
 use Rattle.record.specs.declared.Dock.{Dock}
 use Rattle.record.specs.Views.{keysWith, Keys, outgoingOf}
 use Rattle.record.specs.Parts.{dockWith}
-use Rattle.record.specs.InPlace.{RestAfter, TypesAfter, ArraysAfter}
+use Rattle.record.specs.InPlace.{RestAfter, TypesAfter, HeldAfter, ArraysAfter}
 use Rattle.record.specs.declared.Outgoing.{Outgoing}
 use Rattle.record.specs.declared.Rest.{Rest}
 
@@ -44,6 +44,13 @@ module _ (f : Dock → Dock) where
   types-after-once lent before types types′ rest rest′ p q =
       let same = parts-once [] [] [] [] types [] [] [] [] types′ rest rest′ (p [] [] [] []) (q [] [] [] []) in
       (same .4, same .5)
+
+  -- `HeldAfter`: the flags of held keys are,
+  pub held-after-once : (lent types : List ℕ) (before : Rest) (held held′ : List ℕ) (rest rest′ : Rest)
+      → HeldAfter f lent types before held rest → HeldAfter f lent types before held′ rest′ → (held ≡ held′) × (rest ≡ rest′)
+  held-after-once lent types before held held′ rest rest′ p q =
+      let same = parts-once [] [] [] held types [] [] [] held′ types rest rest′ (p [] [] []) (q [] [] []) in
+      (same .3, same .5)
 
   -- `ArraysAfter`: and all but the map.
   pub arrays-after-once : (lent-closed lent-counts lent-held lent-types : List ℕ) (before : Rest)

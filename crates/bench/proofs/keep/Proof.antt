@@ -12,38 +12,8 @@ Inv-loop input₀ from end n i₀ input i = (i ≤ n) × (n ≤ 289) × (from + 
 abbrev μ-loop : tie.MeasureT-loop
 μ-loop input₀ from end n i₀ input i = n - i
 
-sub-shortened : tie.Need-sub-shortened Inv-loop μ-loop
-sub-shortened c = omega arith
-
-shortened-requires : tie.Need-shortened-requires Inv-loop μ-loop
-shortened-requires c κs = omega arith
-
-loop-holds : tie.Need-loop-holds Inv-loop μ-loop
-loop-holds c = omega arith
-
-add-input : tie.Need-add-input Inv-loop μ-loop
-add-input c = omega arith
-
-slice-read-input : tie.Need-slice-read-input Inv-loop μ-loop
-slice-read-input c = omega arith
-
-slice-write-input : tie.Need-slice-write-input Inv-loop μ-loop
-slice-write-input c = omega arith
-
-add-i : tie.Need-add-i Inv-loop μ-loop
-add-i c = omega arith
-
-loop-less : tie.Need-loop-less Inv-loop μ-loop
-loop-less c = omega arith
-
 loop-again : tie.Need-loop-again Inv-loop μ-loop
 loop-again c = (omega arith, omega arith, omega arith, simp length-set (c .before .before .loop .inv .3))
-
-same-length : tie.Need-same-length Inv-loop μ-loop
-same-length c = omega arith
-
-returns : tie.Need-returns Inv-loop μ-loop
-returns c = omega arith
 
 pub keep-spec : {M : Type 1} → statement M
 keep-spec =
@@ -51,14 +21,14 @@ keep-spec =
     (tie.spec
     Inv-loop
     μ-loop
-    sub-shortened
-    shortened-requires
-    loop-holds
-    add-input
-    slice-read-input
-    slice-write-input
-    add-i
-    loop-less
+    (λ c. omega arith)  -- sub-shortened
+    (λ c κs. omega arith)  -- shortened-requires
+    (λ c. omega arith)  -- loop-holds
+    (λ c. omega arith)  -- add-input
+    (λ c. omega arith)  -- slice-read-input
+    (λ c. omega arith)  -- slice-write-input
+    (λ c. omega arith)  -- add-i
+    (λ c. omega arith)  -- loop-less
     loop-again
-    same-length
-    returns)
+    (λ c. omega arith)  -- same-length
+    (λ c. omega arith))  -- returns

@@ -6,27 +6,8 @@ use Rattle.range.proofs.PowerOn.{power-on-in-range}
 use Rattle.bench.proofs.main.Statement.{statement}
 use Rattle.bench.proofs.main.Tie as tie
 
-power-on-requires : tie.Need-power-on-requires
-power-on-requires c κs = search needs
-
-slice-aggregate-serve : tie.Need-slice-aggregate-serve
-slice-aggregate-serve c = search needs
-
-slice-aggregate-serve-2 : tie.Need-slice-aggregate-serve-2
-slice-aggregate-serve-2 c = search needs
-
 serve-requires : tie.Need-serve-requires
 serve-requires c κs = (ap inRange (c .before .before .power-on .ensures) ∙ power-on-in-range, search needs, search needs)
 
-returns : tie.Need-returns
-returns c = search needs
-
 pub main-spec : {M : Type 1} → statement M
-main-spec =
-    tie.close
-    (tie.spec
-    power-on-requires
-    slice-aggregate-serve
-    slice-aggregate-serve-2
-    serve-requires
-    returns)
+main-spec = tie.close (tie.spec (λ c κs. search needs) (λ c. search needs) (λ c. search needs) serve-requires (λ c. search needs))

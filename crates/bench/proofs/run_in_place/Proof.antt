@@ -24,9 +24,6 @@ abbrev μ-loop : tie.MeasureT-loop
 μ-loop map₀ closed₀ counts₀ held₀ types₀ text out₀ rest₀ at₀ written₀ end₀ map closed counts held types out rest at written end =
     length text - at
 
-end-of-requires : tie.Need-end-of-requires Inv-loop μ-loop
-end-of-requires c κs = omega arith
-
 loop-holds : tie.Need-loop-holds Inv-loop μ-loop
 loop-holds c =
     let s = c .before .before .before in
@@ -56,12 +53,6 @@ put-requires c κs =
 
 add-at : tie.Need-add-at Inv-loop μ-loop
 add-at c = omega (arith, c .before .before .before .before .before .before .before .before .before .before .before .before .loop-test .taken, c .before .before .before .before .before .before .before .before .before .before .before .before .before .before .before .before .before .pre .0)
-
-end-of-requires-2 : tie.Need-end-of-requires-2 Inv-loop μ-loop
-end-of-requires-2 c κs = omega arith
-
-loop-less : tie.Need-loop-less Inv-loop μ-loop
-loop-less c = omega arith
 
 loop-again : tie.Need-loop-again Inv-loop μ-loop
 loop-again c =
@@ -99,7 +90,7 @@ run-in-place-spec =
     (tie.spec
     Inv-loop
     μ-loop
-    end-of-requires
+    (λ c κs. omega arith)  -- end-of-requires
     loop-holds
     sub-step-in-place
     part-step-in-place-start
@@ -107,8 +98,8 @@ run-in-place-spec =
     step-in-place-requires
     put-requires
     add-at
-    end-of-requires-2
-    loop-less
+    (λ c κs. omega arith)  -- end-of-requires-2
+    (λ c. omega arith)  -- loop-less
     loop-again
     same-length
     returns)

@@ -7,9 +7,6 @@ use lib.Seq.{length-take-le}
 use Rattle.bench.proofs.work.Statement.{statement}
 use Rattle.bench.proofs.work.Tie as tie
 
-slice-reshare-prefix-run : tie.Need-slice-reshare-prefix-run
-slice-reshare-prefix-run c = search needs
-
 slice-aggregate-run : tie.Need-slice-aggregate-run
 slice-aggregate-run c = sym (length-take-le _ _ (omega arith))
 
@@ -18,14 +15,8 @@ run-requires c κs =
     let s = c .before .before .before .before in
     (s .pre .0, omega (arith, length-take-le (s .args .end) (s .args .input .now) (omega arith)), search needs)
 
-slice-reshare-prefix-write-all : tie.Need-slice-reshare-prefix-write-all
-slice-reshare-prefix-write-all c = search needs
-
 slice-aggregate-write-all : tie.Need-slice-aggregate-write-all
 slice-aggregate-write-all c = sym (length-take-le _ _ (search needs))
-
-write-all-requires : tie.Need-write-all-requires
-write-all-requires c κs = search needs
 
 keep-requires : tie.Need-keep-requires
 keep-requires c κs =
@@ -33,26 +24,17 @@ keep-requires c κs =
     let fits : length (take (a .end) (a .input .now)) ≡ a .end = length-take-le (a .end) (a .input .now) (omega arith) in
     (omega (arith, c .before .before .before .before .before .before .run .ensures .0), search needs)
 
-same-length : tie.Need-same-length
-same-length c = search needs
-
-same-length-2 : tie.Need-same-length-2
-same-length-2 c = search needs
-
-returns : tie.Need-returns
-returns c = search needs
-
 pub work-spec : {M : Type 1} → statement M
 work-spec =
     tie.close
     (tie.spec
-    slice-reshare-prefix-run
+    (λ c. search needs)  -- slice-reshare-prefix-run
     slice-aggregate-run
     run-requires
-    slice-reshare-prefix-write-all
+    (λ c. search needs)  -- slice-reshare-prefix-write-all
     slice-aggregate-write-all
-    write-all-requires
+    (λ c κs. search needs)  -- write-all-requires
     keep-requires
-    same-length
-    same-length-2
-    returns)
+    (λ c. search needs)  -- same-length
+    (λ c. search needs)  -- same-length-2
+    (λ c. search needs))  -- returns

@@ -3,11 +3,8 @@ use borrow.Author.Needs.{needs}
 use Rattle.commands.proofs.clear.Statement.{statement}
 use Rattle.commands.proofs.clear.Tie as tie
 
-empty-requires : tie.Need-empty-requires
-empty-requires c κs = search needs
-
 returns : tie.Need-returns
 returns c = λ map closed counts held types. rw (c .empty .ensures)
 
 pub clear-spec : {M : Type 1} → statement M
-clear-spec = tie.close (tie.spec empty-requires returns)
+clear-spec = tie.close (tie.spec (λ c κs. search needs) returns)

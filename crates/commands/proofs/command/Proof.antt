@@ -5,15 +5,6 @@ use Rattle.commands.proofs.Rows.{command-waits, command-done}
 use Rattle.commands.proofs.command.Statement.{statement}
 use Rattle.commands.proofs.command.Tie as tie
 
-obey-requires : tie.Need-obey-requires
-obey-requires c κs = search needs
-
-reply-to-requires : tie.Need-reply-to-requires
-reply-to-requires c κs = search needs
-
-takes-value-requires : tie.Need-takes-value-requires
-takes-value-requires c κs = search needs
-
 returns : tie.Need-returns
 returns c = λ map.
     let l = c .before in
@@ -29,5 +20,4 @@ returns-2 c = λ map.
     command-done (a .byte) (dockWith map (a .closed .now) (a .counts .now) (a .held .now) (a .types .now) (a .rest)) _ _ (o .obey .ensures map) (l .before .reply-to .ensures) _ (l .takes-value .ensures) (c .if1 .left)
 
 pub command-spec : {M : Type 1} → statement M
-command-spec =
-    tie.close (tie.spec obey-requires reply-to-requires takes-value-requires returns returns-2)
+command-spec = tie.close (tie.spec (λ c κs. search needs) (λ c κs. search needs) (λ c κs. search needs) returns returns-2)

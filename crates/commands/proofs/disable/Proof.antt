@@ -7,11 +7,8 @@ use Rattle.record.specs.Parts.{withScanning}
 use Rattle.commands.proofs.disable.Statement.{statement}
 use Rattle.commands.proofs.disable.Tie as tie
 
-set-default-requires : tie.Need-set-default-requires
-set-default-requires c κs = search needs
-
 returns : tie.Need-returns
 returns c = λ map closed counts held. ap (λ (d : Dock). withScanning d false) (c .set-default .ensures map closed counts held)
 
 pub disable-spec : {M : Type 1} → statement M
-disable-spec = tie.close (tie.spec set-default-requires returns)
+disable-spec = tie.close (tie.spec (λ c κs. search needs) returns)

@@ -7,11 +7,8 @@ use Rattle.record.specs.Parts.{withScanning}
 use Rattle.commands.proofs.enable.Statement.{statement}
 use Rattle.commands.proofs.enable.Tie as tie
 
-quieten-requires : tie.Need-quieten-requires
-quieten-requires c κs = search needs
-
 returns : tie.Need-returns
 returns c = λ map closed counts held types. ap (λ (d : Dock). withScanning d true) (c .quieten .ensures map closed counts held types)
 
 pub enable-spec : {M : Type 1} → statement M
-enable-spec = tie.close (tie.spec quieten-requires returns)
+enable-spec = tie.close (tie.spec (λ c κs. search needs) returns)

@@ -8,30 +8,6 @@ use Rattle.commands.proofs.Rows.{obeyed-below, obeyed-types, obeyed-key
 use Rattle.commands.proofs.obey.Statement.{statement}
 use Rattle.commands.proofs.obey.Tie as tie
 
-ready-for-set-requires : tie.Need-ready-for-set-requires
-ready-for-set-requires c κs = search needs
-
-enable-requires : tie.Need-enable-requires
-enable-requires c κs = search needs
-
-disable-requires : tie.Need-disable-requires
-disable-requires c κs = search needs
-
-set-default-requires : tie.Need-set-default-requires
-set-default-requires c κs = search needs
-
-reset-requires : tie.Need-reset-requires
-reset-requires c κs = search needs
-
-sub-set-all-types : tie.Need-sub-set-all-types
-sub-set-all-types c = omega arith
-
-set-all-types-requires : tie.Need-set-all-types-requires
-set-all-types-requires c κs = search needs
-
-clear-requires : tie.Need-clear-requires
-clear-requires c κs = search needs
-
 returns : tie.Need-returns
 unfolding obeyed
 returns c = λ map.
@@ -87,14 +63,14 @@ pub obey-spec : {M : Type 1} → statement M
 obey-spec =
     tie.close
     (tie.spec
-    ready-for-set-requires
-    enable-requires
-    disable-requires
-    set-default-requires
-    reset-requires
-    sub-set-all-types
-    set-all-types-requires
-    clear-requires
+    (λ c κs. search needs)  -- ready-for-set-requires
+    (λ c κs. search needs)  -- enable-requires
+    (λ c κs. search needs)  -- disable-requires
+    (λ c κs. search needs)  -- set-default-requires
+    (λ c κs. search needs)  -- reset-requires
+    (λ c. omega arith)  -- sub-set-all-types
+    (λ c κs. search needs)  -- set-all-types-requires
+    (λ c κs. search needs)  -- clear-requires
     returns
     returns-2
     returns-3

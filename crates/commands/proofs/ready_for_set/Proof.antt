@@ -7,9 +7,6 @@ use Rattle.record.specs.Parts.{withMode}
 use Rattle.commands.proofs.ready_for_set.Statement.{statement}
 use Rattle.commands.proofs.ready_for_set.Tie as tie
 
-quieten-requires : tie.Need-quieten-requires
-quieten-requires c κs = search needs
-
 returns : tie.Need-returns
 returns c = λ map closed counts held types.
     let m = c .before .before .args .rest .mode in
@@ -17,4 +14,4 @@ returns c = λ map closed counts held types.
     (c .quieten .ensures map closed counts held types)
 
 pub ready-for-set-spec : {M : Type 1} → statement M
-ready-for-set-spec = tie.close (tie.spec quieten-requires returns)
+ready-for-set-spec = tie.close (tie.spec (λ c κs. search needs) returns)

@@ -4,15 +4,9 @@ use Rattle.record.specs.Power.{freshWith}
 use Rattle.commands.proofs.reset.Statement.{statement}
 use Rattle.commands.proofs.reset.Tie as tie
 
-default-types-requires : tie.Need-default-types-requires
-default-types-requires c κs = search needs
-
-fresh-rest-requires : tie.Need-fresh-rest-requires
-fresh-rest-requires c κs = search needs
-
 returns : tie.Need-returns
 unfolding freshWith
 returns c = λ map. rw (c .fresh-rest .ensures, c .before .before .default-types .ensures)
 
 pub reset-spec : {M : Type 1} → statement M
-reset-spec = tie.close (tie.spec default-types-requires fresh-rest-requires returns)
+reset-spec = tie.close (tie.spec (λ c κs. search needs) (λ c κs. search needs) returns)

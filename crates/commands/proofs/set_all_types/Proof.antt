@@ -9,13 +9,10 @@ use Rattle.record.specs.Parts.{withTypes}
 use Rattle.commands.proofs.set_all_types.Statement.{statement}
 use Rattle.commands.proofs.set_all_types.Tie as tie
 
-clear-requires : tie.Need-clear-requires
-clear-requires c κs = search needs
-
 returns : tie.Need-returns
 returns c = λ map closed counts held.
     let a = c .before .args in
     ap (λ (d : Dock). withTypes d (replicate (suc lastKey) (a .kind))) (c .clear .ensures map closed counts held (a .types .now))
 
 pub set-all-types-spec : {M : Type 1} → statement M
-set-all-types-spec = tie.close (tie.spec clear-requires returns)
+set-all-types-spec = tie.close (tie.spec (λ c κs. search needs) returns)

@@ -9,12 +9,6 @@ use Rattle.record.specs.Parts.{withTypes, withMode}
 use Rattle.commands.proofs.set_default.Statement.{statement}
 use Rattle.commands.proofs.set_default.Tie as tie
 
-default-types-requires : tie.Need-default-types-requires
-default-types-requires c κs = search needs
-
-quieten-requires : tie.Need-quieten-requires
-quieten-requires c κs = search needs
-
 returns : tie.Need-returns
 returns c = λ map closed counts held.
     let a = c .before .before .before .args in
@@ -22,4 +16,4 @@ returns c = λ map closed counts held.
     (c .quieten .ensures map closed counts held (a .types .now)) (c .before .default-types .ensures)
 
 pub set-default-spec : {M : Type 1} → statement M
-set-default-spec = tie.close (tie.spec default-types-requires quieten-requires returns)
+set-default-spec = tie.close (tie.spec (λ c κs. search needs) (λ c κs. search needs) returns)

@@ -6,15 +6,9 @@ use Rattle.contacts.specs.Counts.{atRest}
 use Rattle.contacts.proofs.at_rest.Statement.{statement}
 use Rattle.contacts.proofs.at_rest.Tie as tie
 
-shows-requires : tie.Need-shows-requires
-shows-requires c κs = search needs
-
 returns : tie.Need-returns
 unfolding atRest
 returns c = simp (sym (c .before .shows .ensures), not-true (c .before .shows .result) (c .if1 .taken))
-
-none-counted-requires : tie.Need-none-counted-requires
-none-counted-requires c κs = search needs
 
 returns-2 : tie.Need-returns-2
 unfolding atRest
@@ -23,4 +17,4 @@ returns-2 c =
     simp (sym (e .before .shows .ensures), not-false (e .before .shows .result) (e .if1 .left)) (c .none-counted .ensures)
 
 pub at-rest-spec : {M : Type 1} → statement M
-at-rest-spec = tie.close (tie.spec shows-requires returns none-counted-requires returns-2)
+at-rest-spec = tie.close (tie.spec (λ c κs. search needs) returns (λ c κs. search needs) returns-2)

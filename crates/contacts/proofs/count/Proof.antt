@@ -20,33 +20,6 @@ loop-holds c =
     let a = c .before .args in
     (omega arith, counted-none (contacts (a .closed .now) (a .counts .now)) _)
 
-shared-slice-read-if1 : tie.Need-shared-slice-read-if1 Inv-loop μ-loop
-shared-slice-read-if1 c = omega arith
-
-element-copy-out-if1 : tie.Need-element-copy-out-if1 Inv-loop μ-loop
-element-copy-out-if1 c = omega arith
-
-still-requires : tie.Need-still-requires Inv-loop μ-loop
-still-requires c κs = omega arith
-
-shared-slice-read-stirred : tie.Need-shared-slice-read-stirred Inv-loop μ-loop
-shared-slice-read-stirred c = omega arith
-
-element-copy-out-stirred : tie.Need-element-copy-out-stirred Inv-loop μ-loop
-element-copy-out-stirred c = omega arith
-
-stirred-requires : tie.Need-stirred-requires Inv-loop μ-loop
-stirred-requires c κs = omega arith
-
-element-write-closed : tie.Need-element-write-closed Inv-loop μ-loop
-element-write-closed c = omega arith
-
-add-c : tie.Need-add-c Inv-loop μ-loop
-add-c c = omega arith
-
-loop-less : tie.Need-loop-less Inv-loop μ-loop
-loop-less c = omega arith
-
 loop-again : tie.Need-loop-again Inv-loop μ-loop
 loop-again c =
     let l = c .before .before .before .before in
@@ -79,14 +52,14 @@ count-spec =
     Inv-loop
     μ-loop
     loop-holds
-    shared-slice-read-if1
-    element-copy-out-if1
-    still-requires
-    shared-slice-read-stirred
-    element-copy-out-stirred
-    stirred-requires
-    element-write-closed
-    add-c
-    loop-less
+    (λ c. omega arith)  -- shared-slice-read-if1
+    (λ c. omega arith)  -- element-copy-out-if1
+    (λ c κs. omega arith)  -- still-requires
+    (λ c. omega arith)  -- shared-slice-read-stirred
+    (λ c. omega arith)  -- element-copy-out-stirred
+    (λ c κs. omega arith)  -- stirred-requires
+    (λ c. omega arith)  -- element-write-closed
+    (λ c. omega arith)  -- add-c
+    (λ c. omega arith)  -- loop-less
     loop-again
     returns)

@@ -8,9 +8,6 @@ use Rattle.contacts.proofs.next_count.Tie as tie
 returns : tie.Need-returns
 returns c = simp (eq-eqb _ _ (c .if1 .taken))
 
-add-result : tie.Need-add-result
-add-result c = search needs
-
 returns-2 : tie.Need-returns-2
 returns-2 c = simp (ne-eqb _ _ (c .before .if1 .left), lt-ltb (c .before .before .args .count) 2 (omega arith))
 
@@ -18,4 +15,4 @@ returns-3 : tie.Need-returns-3
 returns-3 c = simp (ne-eqb _ _ (c .before .if1 .left), le-ltb (c .before .before .args .count) 2 (omega arith))
 
 pub next-count-spec : {M : Type 1} → statement M
-next-count-spec = tie.close (tie.spec returns add-result returns-2 returns-3)
+next-count-spec = tie.close (tie.spec returns (λ c. search needs) returns-2 returns-3)

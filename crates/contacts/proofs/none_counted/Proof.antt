@@ -20,15 +20,6 @@ abbrev μ-loop : tie.MeasureT-loop
 loop-holds : tie.Need-loop-holds Inv-loop μ-loop
 loop-holds c = refl
 
-element-copy-out-if1 : tie.Need-element-copy-out-if1 Inv-loop μ-loop
-element-copy-out-if1 c = omega arith
-
-add-p : tie.Need-add-p Inv-loop μ-loop
-add-p c = omega arith
-
-loop-less : tie.Need-loop-less Inv-loop μ-loop
-loop-less c = omega arith
-
 loop-again : tie.Need-loop-again Inv-loop μ-loop
 loop-again c =
     let l = c .before .before .before in
@@ -44,4 +35,12 @@ returns c = up-to-end 0 (c .before .before .args .counts .now) (c .before .loop 
 pub none-counted-spec : {M : Type 1} → statement M
 none-counted-spec =
     tie.close
-    (tie.spec Inv-loop μ-loop loop-holds element-copy-out-if1 add-p loop-less loop-again returns)
+    (tie.spec
+    Inv-loop
+    μ-loop
+    loop-holds
+    (λ c. omega arith)  -- element-copy-out-if1
+    (λ c. omega arith)  -- add-p
+    (λ c. omega arith)  -- loop-less
+    loop-again
+    returns)

@@ -14,23 +14,8 @@ Inv-loop counts₀ column first r₀ counts r = (r ≤ 8) × (counts ≡ renewed
 abbrev μ-loop : tie.MeasureT-loop
 μ-loop counts₀ column first r₀ counts r = 8 - r
 
-mul-first : tie.Need-mul-first Inv-loop μ-loop
-mul-first c = omega arith
-
 loop-holds : tie.Need-loop-holds Inv-loop μ-loop
 loop-holds c = (omega arith, renewed-none _ _ _)
-
-add-counts : tie.Need-add-counts Inv-loop μ-loop
-add-counts c = omega arith
-
-element-write-counts : tie.Need-element-write-counts Inv-loop μ-loop
-element-write-counts c = omega arith
-
-add-r : tie.Need-add-r Inv-loop μ-loop
-add-r c = omega arith
-
-loop-less : tie.Need-loop-less Inv-loop μ-loop
-loop-less c = omega arith
 
 loop-again : tie.Need-loop-again Inv-loop μ-loop
 loop-again c = (omega arith, renewed-more _ _ _ _ _ _ (c .before .loop .inv .1) refl)
@@ -44,11 +29,11 @@ still-spec =
     (tie.spec
     Inv-loop
     μ-loop
-    mul-first
+    (λ c. omega arith)  -- mul-first
     loop-holds
-    add-counts
-    element-write-counts
-    add-r
-    loop-less
+    (λ c. omega arith)  -- add-counts
+    (λ c. omega arith)  -- element-write-counts
+    (λ c. omega arith)  -- add-r
+    (λ c. omega arith)  -- loop-less
     loop-again
     returns)

@@ -19,41 +19,8 @@ Inv-loop counts₀ column seen closed first turned₀ r₀ counts turned r =
 abbrev μ-loop : tie.MeasureT-loop
 μ-loop counts₀ column seen closed first turned₀ r₀ counts turned r = 8 - r
 
-mul-first : tie.Need-mul-first Inv-loop μ-loop
-mul-first c = omega arith
-
 loop-holds : tie.Need-loop-holds Inv-loop μ-loop
 loop-holds c = (omega arith, renewed-none _ _ _, packed-none _)
-
-cast-otherwise : tie.Need-cast-otherwise Inv-loop μ-loop
-cast-otherwise c = omega arith
-
-shl-otherwise : tie.Need-shl-otherwise Inv-loop μ-loop
-shl-otherwise c = omega arith
-
-add-count : tie.Need-add-count Inv-loop μ-loop
-add-count c = omega arith
-
-element-copy-out-count : tie.Need-element-copy-out-count Inv-loop μ-loop
-element-copy-out-count c = omega arith
-
-next-count-requires : tie.Need-next-count-requires Inv-loop μ-loop
-next-count-requires c κs = search needs
-
-add-counts : tie.Need-add-counts Inv-loop μ-loop
-add-counts c = omega arith
-
-element-write-counts : tie.Need-element-write-counts Inv-loop μ-loop
-element-write-counts c = omega arith
-
-turning-requires : tie.Need-turning-requires Inv-loop μ-loop
-turning-requires c κs = search needs
-
-add-r : tie.Need-add-r Inv-loop μ-loop
-add-r c = omega arith
-
-loop-less : tie.Need-loop-less Inv-loop μ-loop
-loop-less c = omega arith
 
 loop-again : tie.Need-loop-again Inv-loop μ-loop
 loop-again c =
@@ -81,17 +48,17 @@ stirred-spec =
     (tie.spec
     Inv-loop
     μ-loop
-    mul-first
+    (λ c. omega arith)  -- mul-first
     loop-holds
-    cast-otherwise
-    shl-otherwise
-    add-count
-    element-copy-out-count
-    next-count-requires
-    add-counts
-    element-write-counts
-    turning-requires
-    add-r
-    loop-less
+    (λ c. omega arith)  -- cast-otherwise
+    (λ c. omega arith)  -- shl-otherwise
+    (λ c. omega arith)  -- add-count
+    (λ c. omega arith)  -- element-copy-out-count
+    (λ c κs. search needs)  -- next-count-requires
+    (λ c. omega arith)  -- add-counts
+    (λ c. omega arith)  -- element-write-counts
+    (λ c κs. search needs)  -- turning-requires
+    (λ c. omega arith)  -- add-r
+    (λ c. omega arith)  -- loop-less
     loop-again
     returns)

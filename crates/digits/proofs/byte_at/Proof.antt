@@ -7,25 +7,10 @@ use Rattle.digits.proofs.Characters.{digit-at, value-at-below-16}
 use Rattle.digits.proofs.byte_at.Statement.{statement}
 use Rattle.digits.proofs.byte_at.Tie as tie
 
-mul-value-of : tie.Need-mul-value-of
-mul-value-of c = search needs
-
-shared-slice-read-value-of : tie.Need-shared-slice-read-value-of
-shared-slice-read-value-of c = search needs
-
 value-of-requires : tie.Need-value-of-requires
 value-of-requires c κs =
     let s = c .before .before in
     digit-at _ _ (s .pre .1) (omega arith)
-
-mul-value-of-2 : tie.Need-mul-value-of-2
-mul-value-of-2 c = search needs
-
-add-value-of : tie.Need-add-value-of
-add-value-of c = search needs
-
-shared-slice-read-value-of-2 : tie.Need-shared-slice-read-value-of-2
-shared-slice-read-value-of-2 c = search needs
 
 value-of-requires-2 : tie.Need-value-of-requires-2
 value-of-requires-2 c κs =
@@ -54,12 +39,12 @@ pub byte-at-spec : {M : Type 1} → statement M
 byte-at-spec =
     tie.close
     (tie.spec
-    mul-value-of
-    shared-slice-read-value-of
+    (λ c. search needs)  -- mul-value-of
+    (λ c. search needs)  -- shared-slice-read-value-of
     value-of-requires
-    mul-value-of-2
-    add-value-of
-    shared-slice-read-value-of-2
+    (λ c. search needs)  -- mul-value-of-2
+    (λ c. search needs)  -- add-value-of
+    (λ c. search needs)  -- shared-slice-read-value-of-2
     value-of-requires-2
     mul-result
     add-result

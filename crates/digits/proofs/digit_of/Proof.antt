@@ -4,17 +4,11 @@ use borrow.Author.Tests.{le-leb, lt-leb}
 use Rattle.digits.proofs.digit_of.Statement.{statement}
 use Rattle.digits.proofs.digit_of.Tie as tie
 
-add-result : tie.Need-add-result
-add-result c = search needs
-
 returns : tie.Need-returns
 returns c = simp (le-leb _ _ (c .if1 .taken))
-
-add-result-2 : tie.Need-add-result-2
-add-result-2 c = search needs
 
 returns-2 : tie.Need-returns-2
 returns-2 c = simp (lt-leb _ _ (c .if1 .left))
 
 pub digit-of-spec : {M : Type 1} → statement M
-digit-of-spec = tie.close (tie.spec add-result returns add-result-2 returns-2)
+digit-of-spec = tie.close (tie.spec (λ c. search needs) returns (λ c. search needs) returns-2)

@@ -8,9 +8,6 @@ use Rattle.digits.proofs.value_of.Tie as tie
 sub-result : tie.Need-sub-result
 sub-result c = digit-from-48 _ (c .before .pre)
 
-sub-result-2 : tie.Need-sub-result-2
-sub-result-2 c = search needs
-
 returns : tie.Need-returns
 returns c = simp (le-leb _ _ (c .if1 .taken))
 
@@ -18,4 +15,4 @@ returns-2 : tie.Need-returns-2
 returns-2 c = simp (lt-leb _ _ (c .if1 .left))
 
 pub value-of-spec : {M : Type 1} → statement M
-value-of-spec = tie.close (tie.spec sub-result sub-result-2 returns returns-2)
+value-of-spec = tie.close (tie.spec sub-result (λ c. search needs) returns returns-2)

@@ -8,9 +8,6 @@ use borrow.Author.Needs.{needs}
 use Rattle.encoder.proofs.encode.Statement.{statement}
 use Rattle.encoder.proofs.encode.Tie as tie
 
-is-allowed-requires : tie.Need-is-allowed-requires
-is-allowed-requires c κs = search needs
-
 returns : tie.Need-returns
 returns c = bad-choice _ _ _ _ _ _ _ (c .before .is-allowed .ensures) _ (c .if1 .taken)
 
@@ -25,9 +22,6 @@ cast-sequence-of-2 : tie.Need-cast-sequence-of-2
 cast-sequence-of-2 c =
     omega (arith, allowed-range _ _ _ _ _ _ _ (c .before .before .is-allowed .ensures) (c .before .if1 .left))
 
-action-of-requires : tie.Need-action-of-requires
-action-of-requires c κs = search needs
-
 cast-sequence-of-3 : tie.Need-cast-sequence-of-3
 cast-sequence-of-3 c =
     omega (arith, allowed-range _ _ _ _ _ _ _ (c .before .before .before .is-allowed .ensures) (c .before .before .if1 .left))
@@ -36,15 +30,9 @@ cast-sequence-of-4 : tie.Need-cast-sequence-of-4
 cast-sequence-of-4 c =
     omega (arith, allowed-range _ _ _ _ _ _ _ (c .before .before .before .is-allowed .ensures) (c .before .before .if1 .left))
 
-sequence-of-requires : tie.Need-sequence-of-requires
-sequence-of-requires c κs = search needs
-
 write-requires : tie.Need-write-requires
 write-requires c κs =
     (rw (c .before .sequence-of .ensures, holding-length) (encode-short _ _ _ _ _ _), c .before .before .before .if2 .left)
-
-same-length : tie.Need-same-length
-same-length c = search needs
 
 returns-3 : tie.Need-returns-3
 unfolding asked
@@ -58,15 +46,15 @@ pub encode-spec : {M : Type 1} → statement M
 encode-spec =
     tie.close
     (tie.spec
-    is-allowed-requires
+    (λ c κs. search needs)  -- is-allowed-requires
     returns
     returns-2
     cast-sequence-of
     cast-sequence-of-2
-    action-of-requires
+    (λ c κs. search needs)  -- action-of-requires
     cast-sequence-of-3
     cast-sequence-of-4
-    sequence-of-requires
+    (λ c κs. search needs)  -- sequence-of-requires
     write-requires
-    same-length
+    (λ c. search needs)  -- same-length
     returns-3)

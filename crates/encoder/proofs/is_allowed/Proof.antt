@@ -5,15 +5,9 @@ use borrow.Author.Needs.{needs}
 use Rattle.encoder.proofs.is_allowed.Statement.{statement}
 use Rattle.encoder.proofs.is_allowed.Tie as tie
 
-is-between-requires : tie.Need-is-between-requires
-is-between-requires c κs = search needs
-
-is-between-requires-2 : tie.Need-is-between-requires-2
-is-between-requires-2 c κs = search needs
-
 returns : tie.Need-returns
 unfolding allowed
 returns c = rw (← c .before .is-between .ensures, ← c .is-between2 .ensures) (simp and-assoc)
 
 pub is-allowed-spec : {M : Type 1} → statement M
-is-allowed-spec = tie.close (tie.spec is-between-requires is-between-requires-2 returns)
+is-allowed-spec = tie.close (tie.spec (λ c κs. search needs) (λ c κs. search needs) returns)

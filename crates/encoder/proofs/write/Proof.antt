@@ -20,20 +20,11 @@ abbrev μ-loop : tie.MeasureT-loop
 loop-holds : tie.Need-loop-holds Inv-loop μ-loop
 loop-holds c = (omega arith, refl)
 
-array-read-out : tie.Need-array-read-out Inv-loop μ-loop
-array-read-out c = omega arith
-
 slice-write-out : tie.Need-slice-write-out Inv-loop μ-loop
 slice-write-out c =
     let b = c .before .before .before .args .sequence .bytes in
     let g : length b ≡ 8 = search needs in
     omega (arith, written-length b _ _ (c .before .loop .i) (c .before .loop .inv .1) (omega arith) (omega arith))
-
-add-i : tie.Need-add-i Inv-loop μ-loop
-add-i c = omega arith
-
-loop-less : tie.Need-loop-less Inv-loop μ-loop
-loop-less c = omega arith
 
 loop-again : tie.Need-loop-again Inv-loop μ-loop
 loop-again c =
@@ -60,10 +51,10 @@ write-spec =
     Inv-loop
     μ-loop
     loop-holds
-    array-read-out
+    (λ c. omega arith)  -- array-read-out
     slice-write-out
-    add-i
-    loop-less
+    (λ c. omega arith)  -- add-i
+    (λ c. omega arith)  -- loop-less
     loop-again
     same-length
     returns)

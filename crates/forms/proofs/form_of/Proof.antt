@@ -13,32 +13,20 @@ returns c = rw (c .if1 .taken)
 returns-2 : tie.Need-returns-2
 returns-2 c = below-cursors _ _ _ _ (c .before .if1 .left) (c .if2 .taken)
 
-of-cursor-requires : tie.Need-of-cursor-requires
-of-cursor-requires c κs = search needs
-
 returns-3 : tie.Need-returns-3
 unfolding formOf
 returns-3 c =
     let b = c .before .before in
     rw (ne-eqb _ _ (b .before .if1 .left), le-leb _ _ (b .if2 .left), le-leb _ _ (c .before .if3 .taken)) (c .of-cursor .ensures)
 
-by-shifts-requires : tie.Need-by-shifts-requires
-by-shifts-requires c κs = search needs
-
 returns-4 : tie.Need-returns-4
 unfolding formOf
 returns-4 c = rw (ne-eqb _ _ (c .before .before .before .before .if1 .left), c .before .if4 .taken) (c .by-shifts .ensures)
-
-of-print-requires : tie.Need-of-print-requires
-of-print-requires c κs = search needs
 
 returns-5 : tie.Need-returns-5
 unfolding formOf
 returns-5 c =
     rw (ne-eqb _ _ (c .before .before .before .before .before .if1 .left), c .before .if5 .taken) (c .of-print .ensures)
-
-of-pause-requires : tie.Need-of-pause-requires
-of-pause-requires c κs = search needs
 
 returns-6 : tie.Need-returns-6
 unfolding formOf
@@ -56,12 +44,12 @@ form-of-spec =
     (tie.spec
     returns
     returns-2
-    of-cursor-requires
+    (λ c κs. search needs)  -- of-cursor-requires
     returns-3
-    by-shifts-requires
+    (λ c κs. search needs)  -- by-shifts-requires
     returns-4
-    of-print-requires
+    (λ c κs. search needs)  -- of-print-requires
     returns-5
-    of-pause-requires
+    (λ c κs. search needs)  -- of-pause-requires
     returns-6
     returns-7)

@@ -5,9 +5,6 @@ use borrow.Author.Needs.{needs}
 use Rattle.forms.proofs.of_cursor.Statement.{statement}
 use Rattle.forms.proofs.of_cursor.Tie as tie
 
-by-shifts-requires : tie.Need-by-shifts-requires
-by-shifts-requires c κs = search needs
-
 returns : tie.Need-returns
 unfolding cursorForm
 returns c = rw (not-true (c .before .before .args .lock) (c .before .if1 .taken)) (c .by-shifts .ensures)
@@ -21,4 +18,4 @@ unfolding cursorForm
 returns-3 c = rw (not-false (c .before .before .args .lock) (c .before .if1 .left), ne-eqb _ _ (c .if2 .left))
 
 pub of-cursor-spec : {M : Type 1} → statement M
-of-cursor-spec = tie.close (tie.spec by-shifts-requires returns returns-2 returns-3)
+of-cursor-spec = tie.close (tie.spec (λ c κs. search needs) returns returns-2 returns-3)

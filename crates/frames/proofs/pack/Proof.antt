@@ -5,11 +5,8 @@ use Rattle.frames.proofs.Packing.{packed-by-shifts}
 use Rattle.frames.proofs.pack.Statement.{statement}
 use Rattle.frames.proofs.pack.Tie as tie
 
-parity-of-requires : tie.Need-parity-of-requires
-parity-of-requires c κs = search needs
-
 returns : tie.Need-returns
 returns c = packed-by-shifts (c .before .args .byte) _ (omega arith) (c .parity-of .ensures)
 
 pub pack-spec : {M : Type 1} → statement M
-pack-spec = tie.close (tie.spec parity-of-requires returns)
+pack-spec = tie.close (tie.spec (λ c κs. search needs) returns)

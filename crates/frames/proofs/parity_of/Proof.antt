@@ -10,12 +10,9 @@ use Rattle.frames.proofs.parity_of.Tie as tie
 add-result : tie.Need-add-result
 add-result c = omega (arith, ones-le 8 (c .args .byte) (omega arith))
 
-cast-result : tie.Need-cast-result
-cast-result c = search needs
-
 returns : tie.Need-returns
 unfolding parity
 returns c = refl
 
 pub parity-of-spec : {M : Type 1} → statement M
-parity-of-spec = tie.close (tie.spec add-result cast-result returns)
+parity-of-spec = tie.close (tie.spec add-result (λ c. search needs) returns)

@@ -16,12 +16,6 @@ cast-byte c = search (needs, fits-and-r)
 returns-2 : tie.Need-returns-2
 returns-2 c = answering (unpacking-says _) (wrong-start _ (c .before .if1 .left) (c .if2 .taken))
 
-parity-of-requires : tie.Need-parity-of-requires
-parity-of-requires c κs = search needs
-
-cast-if3 : tie.Need-cast-if3
-cast-if3 c = search needs
-
 returns-3 : tie.Need-returns-3
 returns-3 c =
     let b = c .before .before in
@@ -47,8 +41,8 @@ unpack-spec =
     returns
     cast-byte
     returns-2
-    parity-of-requires
-    cast-if3
+    (λ c κs. search needs)  -- parity-of-requires
+    (λ c. search needs)  -- cast-if3
     returns-3
     returns-4
     returns-5)

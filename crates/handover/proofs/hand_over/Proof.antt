@@ -26,21 +26,6 @@ abbrev μ-loop : tie.MeasureT-loop
 loop-holds : tie.Need-loop-holds Inv-loop μ-loop
 loop-holds c = (omega arith, begins _ _ (keysWith (c .args .held .now) (c .args .outgoing)) (c .pre .0))
 
-cast-if1 : tie.Need-cast-if1 Inv-loop μ-loop
-cast-if1 c = omega arith
-
-element-copy-out-if1 : tie.Need-element-copy-out-if1 Inv-loop μ-loop
-element-copy-out-if1 c = omega arith
-
-cast-bytes-of : tie.Need-cast-bytes-of Inv-loop μ-loop
-cast-bytes-of c = omega arith
-
-element-copy-out-bytes-of : tie.Need-element-copy-out-bytes-of Inv-loop μ-loop
-element-copy-out-bytes-of c = omega arith
-
-bytes-of-requires : tie.Need-bytes-of-requires Inv-loop μ-loop
-bytes-of-requires c κs = search needs
-
 fits-requires : tie.Need-fits-requires Inv-loop μ-loop
 unfolding sends
 fits-requires c κs =
@@ -66,12 +51,6 @@ release-with-requires c κs =
     let l = b .before .before .before .before .before .before in
     let k = keysWith (l .loop .held) (l .loop .after) in
     (l .loop .inv .1 .good, omega arith, sequence-short k (l .before .args .mode) _ _ Release _ (b .bytes-of .ensures))
-
-add-key : tie.Need-add-key Inv-loop μ-loop
-add-key c = omega arith
-
-loop-less : tie.Need-loop-less Inv-loop μ-loop
-loop-less c = omega arith
 
 loop-again : tie.Need-loop-again Inv-loop μ-loop
 unfolding sends
@@ -102,15 +81,15 @@ hand-over-spec =
     Inv-loop
     μ-loop
     loop-holds
-    cast-if1
-    element-copy-out-if1
-    cast-bytes-of
-    element-copy-out-bytes-of
-    bytes-of-requires
+    (λ c. omega arith)  -- cast-if1
+    (λ c. omega arith)  -- element-copy-out-if1
+    (λ c. omega arith)  -- cast-bytes-of
+    (λ c. omega arith)  -- element-copy-out-bytes-of
+    (λ c κs. search needs)  -- bytes-of-requires
     fits-requires
     returns
     release-with-requires
-    add-key
-    loop-less
+    (λ c. omega arith)  -- add-key
+    (λ c. omega arith)  -- loop-less
     loop-again
     returns-2)

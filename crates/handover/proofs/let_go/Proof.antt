@@ -4,9 +4,6 @@ use borrow.Author.Tests.{eq-eqb, ne-eqb}
 use Rattle.handover.proofs.let_go.Statement.{statement}
 use Rattle.handover.proofs.let_go.Tie as tie
 
-element-write-held : tie.Need-element-write-held
-element-write-held c = search needs
-
 returns : tie.Need-returns
 returns c = simp (eq-eqb _ _ (c .if1 .taken))
 
@@ -14,4 +11,4 @@ returns-2 : tie.Need-returns-2
 returns-2 c = simp (ne-eqb _ _ (c .if1 .left))
 
 pub let-go-spec : {M : Type 1} → statement M
-let-go-spec = tie.close (tie.spec element-write-held returns returns-2)
+let-go-spec = tie.close (tie.spec (λ c. search needs) returns returns-2)

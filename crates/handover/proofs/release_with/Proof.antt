@@ -13,9 +13,6 @@ queued-requires c κs =
     let a = c .before .args in
     (good-keys-queue (keysWith (a .held .now) (a .outgoing)) (c .before .pre .0), c .before .pre .2)
 
-let-go-requires : tie.Need-let-go-requires
-let-go-requires c κs = search needs
-
 returns : tie.Need-returns
 unfolding releasedWith
 returns c =
@@ -23,4 +20,4 @@ returns c =
     c .let-go .ensures ∙ ap (λ (q : Queue). letGo (keysWith (a .held .now) (a .outgoing)) (a .key) q) (c .before .before .queued .ensures)
 
 pub release-with-spec : {M : Type 1} → statement M
-release-with-spec = tie.close (tie.spec queued-requires let-go-requires returns)
+release-with-spec = tie.close (tie.spec queued-requires (λ c κs. search needs) returns)

@@ -3,11 +3,8 @@ use borrow.Author.Needs.{needs}
 use Rattle.host.proofs.reply.Statement.{statement}
 use Rattle.host.proofs.reply.Tie as tie
 
-one-requires : tie.Need-one-requires
-one-requires c κs = search needs
-
 returns : tie.Need-returns
 returns c = λ map closed counts held types. rw (c .one .ensures)
 
 pub reply-spec : {M : Type 1} → statement M
-reply-spec = tie.close (tie.spec one-requires returns)
+reply-spec = tie.close (tie.spec (λ c κs. search needs) returns)

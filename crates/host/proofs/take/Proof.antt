@@ -6,17 +6,11 @@ use Rattle.host.proofs.Rows.{took-resend, took-value, took-command}
 use Rattle.host.proofs.take.Statement.{statement}
 use Rattle.host.proofs.take.Tie as tie
 
-reply-requires : tie.Need-reply-requires
-reply-requires c κs = search needs
-
 returns : tie.Need-returns
 returns c = λ map.
     let a = c .before .before .args in
     c .reply .ensures map (a .closed .now) (a .counts .now) (a .held .now) (a .types .now)
     ∙ took-resend (a .byte) (dockWith map (a .closed .now) (a .counts .now) (a .held .now) (a .types .now) (a .rest)) (c .before .if1 .taken)
-
-take-value-requires : tie.Need-take-value-requires
-take-value-requires c κs = search needs
 
 returns-2 : tie.Need-returns-2
 returns-2 c = λ map.
@@ -25,9 +19,6 @@ returns-2 c = λ map.
     c .take-value .ensures map (a .closed .now) (a .counts .now) (a .held .now)
     ∙ took-value (a .byte) (dockWith map (a .closed .now) (a .counts .now) (a .held .now) (a .types .now) (a .rest)) (small .if2 .taken)
 
-command-requires : tie.Need-command-requires
-command-requires c κs = search needs
-
 returns-3 : tie.Need-returns-3
 returns-3 c = λ map.
     let large = c .before .before .before .before .before in
@@ -35,5 +26,4 @@ returns-3 c = λ map.
     c .command .ensures map ∙ took-command (a .byte) (dockWith map (a .closed .now) (a .counts .now) (a .held .now) (a .types .now) (a .rest)) (large .if2 .left) (large .before .if1 .left)
 
 pub take-spec : {M : Type 1} → statement M
-take-spec =
-    tie.close (tie.spec reply-requires returns take-value-requires returns-2 command-requires returns-3)
+take-spec = tie.close (tie.spec (λ c κs. search needs) returns (λ c κs. search needs) returns-2 (λ c κs. search needs) returns-3)

@@ -5,12 +5,6 @@ use Rattle.keydock.proofs.Numbers.{count-small, encoded, counted}
 use Rattle.keydock.proofs.keydock_key_codes.Statement.{statement}
 use Rattle.keydock.proofs.keydock_key_codes.Tie as tie
 
-encode-requires : tie.Need-encode-requires
-encode-requires c κs = search needs
-
-enum-known-answer : tie.Need-enum-known-answer
-enum-known-answer c = search needs
-
 cast-result : tie.Need-cast-result
 cast-result c =
     let e = c .before .before .before .before .before .encode .ensures .answer in
@@ -19,27 +13,15 @@ cast-result c =
 enum-told : tie.Need-enum-told
 enum-told c = search needs
 
-enum-told-2 : tie.Need-enum-told-2
-enum-told-2 c = search needs
-
-same-length : tie.Need-same-length
-same-length c = search needs
-
 returns : tie.Need-returns
 returns c =
     let e = c .before .before .before .before .before .encode .ensures in
     (counted _ _ _ _ _ _ _ _ (e .answer) _ (c .before .answer .given .1), e .output)
 
-same-length-2 : tie.Need-same-length-2
-same-length-2 c = search needs
-
 returns-2 : tie.Need-returns-2
 returns-2 c =
     let e = c .before .before .before .before .encode .ensures in
     (encoded _ _ _ _ _ _ _ _ (e .answer) _ (c .enum-told .given .1), e .output)
-
-same-length-3 : tie.Need-same-length-3
-same-length-3 c = search needs
 
 returns-3 : tie.Need-returns-3
 returns-3 c =
@@ -50,14 +32,14 @@ pub keydock-key-codes-spec : {M : Type 1} → statement M
 keydock-key-codes-spec =
     tie.close
     (tie.spec
-    encode-requires
-    enum-known-answer
+    (λ c κs. search needs)  -- encode-requires
+    (λ c. search needs)  -- enum-known-answer
     cast-result
     enum-told
-    enum-told-2
-    same-length
+    (λ c. search needs)  -- enum-told-2
+    (λ c. search needs)  -- same-length
     returns
-    same-length-2
+    (λ c. search needs)  -- same-length-2
     returns-2
-    same-length-3
+    (λ c. search needs)  -- same-length-3
     returns-3)

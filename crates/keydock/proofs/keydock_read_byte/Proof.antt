@@ -13,24 +13,6 @@ sizes c =
     small _ _ _ _ _ _ (told .before .read .ensures .answer) (omega arith) (told .refusal-of .ensures) (c .before .before .if1 .taken)
     (c .event-number .ensures)
 
-read-requires : tie.Need-read-requires
-read-requires c κs = search needs
-
-refusal-of-requires : tie.Need-refusal-of-requires
-refusal-of-requires c κs = search needs
-
-key-of-requires : tie.Need-key-of-requires
-key-of-requires c κs = search needs
-
-cast-key : tie.Need-cast-key
-cast-key c = search needs
-
-event-number-requires : tie.Need-event-number-requires
-event-number-requires c κs = search needs
-
-mul-result : tie.Need-mul-result
-mul-result c = search needs
-
 add-result : tie.Need-add-result
 add-result c = omega (arith, sizes c)
 
@@ -64,12 +46,12 @@ pub keydock-read-byte-spec : {M : Type 1} → statement M
 keydock-read-byte-spec =
     tie.close
     (tie.spec
-    read-requires
-    refusal-of-requires
-    key-of-requires
-    cast-key
-    event-number-requires
-    mul-result
+    (λ c κs. search needs)  -- read-requires
+    (λ c κs. search needs)  -- refusal-of-requires
+    (λ c κs. search needs)  -- key-of-requires
+    (λ c. search needs)  -- cast-key
+    (λ c κs. search needs)  -- event-number-requires
+    (λ c. search needs)  -- mul-result
     add-result
     mul-result-2
     add-result-2

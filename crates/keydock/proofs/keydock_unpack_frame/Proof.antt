@@ -7,20 +7,8 @@ use Rattle.keydock.proofs.Numbers.{as-it-is}
 use Rattle.keydock.proofs.keydock_unpack_frame.Statement.{statement}
 use Rattle.keydock.proofs.keydock_unpack_frame.Tie as tie
 
-unpack-requires : tie.Need-unpack-requires
-unpack-requires c κs = search needs
-
-enum-known-answer : tie.Need-enum-known-answer
-enum-known-answer c = search needs
-
-cast-result : tie.Need-cast-result
-cast-result c = search needs
-
 enum-told : tie.Need-enum-told
 enum-told c = search needs
-
-enum-told-2 : tie.Need-enum-told-2
-enum-told-2 c = search needs
 
 returns : tie.Need-returns
 returns c = as-it-is (c .before .answer .given .0 .0) (omega arith) ∙ ap unpackedNumber (sym (c .before .answer .given .1) ∙ c .before .before .before .unpack .ensures .answer)
@@ -35,11 +23,11 @@ pub keydock-unpack-frame-spec : {M : Type 1} → statement M
 keydock-unpack-frame-spec =
     tie.close
     (tie.spec
-    unpack-requires
-    enum-known-answer
-    cast-result
+    (λ c κs. search needs)  -- unpack-requires
+    (λ c. search needs)  -- enum-known-answer
+    (λ c. search needs)  -- cast-result
     enum-told
-    enum-told-2
+    (λ c. search needs)  -- enum-told-2
     returns
     returns-2
     returns-3)

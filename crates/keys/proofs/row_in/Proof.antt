@@ -10,30 +10,6 @@ returns c = no-key _ (c .if1 .taken)
 returns-2 : tie.Need-returns-2
 returns-2 c = past-the-keys _ (c .if2 .taken)
 
-sub-row : tie.Need-sub-row
-sub-row c = search needs
-
-cast-row : tie.Need-cast-row
-cast-row c = search needs
-
-mul-row : tie.Need-mul-row
-mul-row c = search needs
-
-element-copy-out-row : tie.Need-element-copy-out-row
-element-copy-out-row c = search needs
-
-array-read-t13 : tie.Need-array-read-t13
-array-read-t13 c = search needs
-
-array-read-t16 : tie.Need-array-read-t16
-array-read-t16 c = search needs
-
-array-read-t19 : tie.Need-array-read-t19
-array-read-t19 c = search needs
-
-array-read-t22 : tie.Need-array-read-t22
-array-read-t22 c = search needs
-
 returns-3 : tie.Need-returns-3
 returns-3 c =
     let b = c .before .before in
@@ -45,12 +21,12 @@ row-in-spec =
     (tie.spec
     returns
     returns-2
-    sub-row
-    cast-row
-    mul-row
-    element-copy-out-row
-    array-read-t13
-    array-read-t16
-    array-read-t19
-    array-read-t22
+    (λ c. search needs)  -- sub-row
+    (λ c. search needs)  -- cast-row
+    (λ c. search needs)  -- mul-row
+    (λ c. search needs)  -- element-copy-out-row
+    (λ c. search needs)  -- array-read-t13
+    (λ c. search needs)  -- array-read-t16
+    (λ c. search needs)  -- array-read-t19
+    (λ c. search needs)  -- array-read-t22
     returns-3)

@@ -9,15 +9,6 @@ use Rattle.lines.proofs.Printing.{answer-steps}
 use Rattle.lines.proofs.frame_line.Statement.{statement}
 use Rattle.lines.proofs.frame_line.Tie as tie
 
-frame-in-requires : tie.Need-frame-in-requires
-frame-in-requires c κs = search needs
-
-frame-in-place-requires : tie.Need-frame-in-place-requires
-frame-in-place-requires c κs = search needs
-
-answer-prints-requires : tie.Need-answer-prints-requires
-answer-prints-requires c κs = search needs
-
 returns : tie.Need-returns
 returns c = λ map known.
     let x = c .before .before .frame-in-place in
@@ -28,6 +19,4 @@ returns c = λ map known.
     (c .answer-prints .ensures)
 
 pub frame-line-spec : {M : Type 1} → statement M
-frame-line-spec =
-    tie.close
-    (tie.spec frame-in-requires frame-in-place-requires answer-prints-requires returns)
+frame-line-spec = tie.close (tie.spec (λ c κs. search needs) (λ c κs. search needs) (λ c κs. search needs) returns)

@@ -10,18 +10,6 @@ use Rattle.lines.proofs.Printing.{answer-steps}
 use Rattle.lines.proofs.map_line.Statement.{statement}
 use Rattle.lines.proofs.map_line.Tie as tie
 
-map-in-requires : tie.Need-map-in-requires
-map-in-requires c κs = search needs
-
-slice-aggregate-swap-in-place : tie.Need-slice-aggregate-swap-in-place
-slice-aggregate-swap-in-place c = search needs
-
-swap-in-place-requires : tie.Need-swap-in-place-requires
-swap-in-place-requires c κs = search needs
-
-answer-prints-requires : tie.Need-answer-prints-requires
-answer-prints-requires c κs = search needs
-
 returns : tie.Need-returns
 returns c =
     let x = c .before .before .swap-in-place in
@@ -35,8 +23,8 @@ pub map-line-spec : {M : Type 1} → statement M
 map-line-spec =
     tie.close
     (tie.spec
-    map-in-requires
-    slice-aggregate-swap-in-place
-    swap-in-place-requires
-    answer-prints-requires
+    (λ c κs. search needs)  -- map-in-requires
+    (λ c. search needs)  -- slice-aggregate-swap-in-place
+    (λ c κs. search needs)  -- swap-in-place-requires
+    (λ c κs. search needs)  -- answer-prints-requires
     returns)

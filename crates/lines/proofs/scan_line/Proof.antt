@@ -10,18 +10,6 @@ use Rattle.lines.proofs.Printing.{answer-steps}
 use Rattle.lines.proofs.scan_line.Statement.{statement}
 use Rattle.lines.proofs.scan_line.Tie as tie
 
-scan-in-requires : tie.Need-scan-in-requires
-scan-in-requires c κs = search needs
-
-slice-aggregate-scan-in-place : tie.Need-slice-aggregate-scan-in-place
-slice-aggregate-scan-in-place c = search needs
-
-scan-in-place-requires : tie.Need-scan-in-place-requires
-scan-in-place-requires c κs = search needs
-
-answer-prints-requires : tie.Need-answer-prints-requires
-answer-prints-requires c κs = search needs
-
 returns : tie.Need-returns
 returns c =
     let x = c .before .before .scan-in-place in
@@ -35,8 +23,8 @@ pub scan-line-spec : {M : Type 1} → statement M
 scan-line-spec =
     tie.close
     (tie.spec
-    scan-in-requires
-    slice-aggregate-scan-in-place
-    scan-in-place-requires
-    answer-prints-requires
+    (λ c κs. search needs)  -- scan-in-requires
+    (λ c. search needs)  -- slice-aggregate-scan-in-place
+    (λ c κs. search needs)  -- scan-in-place-requires
+    (λ c κs. search needs)  -- answer-prints-requires
     returns)

@@ -9,9 +9,6 @@ use Rattle.lines.proofs.Printing.{by-kind}
 use Rattle.lines.proofs.step_in_place.Statement.{statement}
 use Rattle.lines.proofs.step_in_place.Tie as tie
 
-kind-of-requires : tie.Need-kind-of-requires
-kind-of-requires c κs = search needs
-
 enum-told : tie.Need-enum-told
 enum-told c = search needs
 
@@ -22,17 +19,11 @@ scan-line-requires c κs =
     let is = scan-is (s .args .line .now) (sym (told .before .before .kind-of .ensures) ∙ told .enum-told .given .1) in
     (s .pre .0, s .pre .1, s .pre .2, is .0, is .1)
 
-enum-told-2 : tie.Need-enum-told-2
-enum-told-2 c = search needs
-
 read-line-requires : tie.Need-read-line-requires
 read-line-requires c κs =
     let s = c .before .before .before .before .before .before in
     let a = s .args in
     in-range-rest (dockWith (a .map .now) (a .closed .now) (a .counts .now) (a .held .now) (a .types .now) (a .rest)) (s .pre .0)
-
-enum-told-3 : tie.Need-enum-told-3
-enum-told-3 c = search needs
 
 frame-line-requires : tie.Need-frame-line-requires
 frame-line-requires c κs =
@@ -42,18 +33,12 @@ frame-line-requires c κs =
     let is = frame-is (a .line .now) (sym (told .before .before .kind-of .ensures) ∙ told .enum-told3 .given .1) in
     (in-range-rest (dockWith (a .map .now) (a .closed .now) (a .counts .now) (a .held .now) (a .types .now) (a .rest)) (s .pre .0), is .0, is .1)
 
-enum-told-4 : tie.Need-enum-told-4
-enum-told-4 c = search needs
-
 map-line-requires : tie.Need-map-line-requires
 map-line-requires c κs =
     let told = c .before .before .before .before .before in
     let s = told .before .before .before .before in
     let is = map-is (s .args .line .now) (sym (told .before .before .kind-of .ensures) ∙ told .enum-told4 .given .1) in
     (s .pre .0, is .0, is .1)
-
-enum-told-5 : tie.Need-enum-told-5
-enum-told-5 c = search needs
 
 returns : tie.Need-returns
 returns c =
@@ -92,16 +77,16 @@ pub step-in-place-spec : {M : Type 1} → statement M
 step-in-place-spec =
     tie.close
     (tie.spec
-    kind-of-requires
+    (λ c κs. search needs)  -- kind-of-requires
     enum-told
     scan-line-requires
-    enum-told-2
+    (λ c. search needs)  -- enum-told-2
     read-line-requires
-    enum-told-3
+    (λ c. search needs)  -- enum-told-3
     frame-line-requires
-    enum-told-4
+    (λ c. search needs)  -- enum-told-4
     map-line-requires
-    enum-told-5
+    (λ c. search needs)  -- enum-told-5
     returns
     returns-2
     returns-3

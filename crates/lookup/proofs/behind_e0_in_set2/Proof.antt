@@ -17,12 +17,9 @@ none-past = refl
 returns : tie.Need-returns
 returns c = past 2 0xe000 128 128 (c .before .args .byte) (0xe000 + c .before .args .byte) none-past (omega arith) (c .if1 .taken) (omega arith)
 
-array-read-result : tie.Need-array-read-result
-array-read-result c = search needs
-
 returns-2 : tie.Need-returns-2
 unfolding listed keyWith firstWith rows
 returns-2 c = inside 2 0xe000 128 (c .before .args .byte) (0xe000 + c .before .args .byte) (omega arith) (c .if1 .left)
 
 pub behind-e0-in-set2-spec : {M : Type 1} → statement M
-behind-e0-in-set2-spec = tie.close (tie.spec returns array-read-result returns-2)
+behind-e0-in-set2-spec = tie.close (tie.spec returns (λ c. search needs) returns-2)

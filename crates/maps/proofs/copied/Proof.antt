@@ -17,18 +17,6 @@ abbrev μ-loop : tie.MeasureT-loop
 loop-holds : tie.Need-loop-holds Inv-loop μ-loop
 loop-holds c = (omega arith, refl, refl)
 
-shared-slice-read-m : tie.Need-shared-slice-read-m Inv-loop μ-loop
-shared-slice-read-m c = omega arith
-
-array-write-m : tie.Need-array-write-m Inv-loop μ-loop
-array-write-m c = omega arith
-
-add-i : tie.Need-add-i Inv-loop μ-loop
-add-i c = omega arith
-
-loop-less : tie.Need-loop-less Inv-loop μ-loop
-loop-less c = omega arith
-
 loop-again : tie.Need-loop-again Inv-loop μ-loop
 loop-again c =
     let l = c .before .before in
@@ -46,9 +34,9 @@ copied-spec =
     Inv-loop
     μ-loop
     loop-holds
-    shared-slice-read-m
-    array-write-m
-    add-i
-    loop-less
+    (λ c. omega arith)  -- shared-slice-read-m
+    (λ c. omega arith)  -- array-write-m
+    (λ c. omega arith)  -- add-i
+    (λ c. omega arith)  -- loop-less
     loop-again
     returns)

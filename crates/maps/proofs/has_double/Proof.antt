@@ -24,9 +24,6 @@ abbrev μ-loop : tie.MeasureT-loop
 loop-holds : tie.Need-loop-holds Inv-loop μ-loop
 loop-holds c = (omega arith, refl, refl, double-none (c .args .map .now))
 
-element-copy-out-k : tie.Need-element-copy-out-k Inv-loop μ-loop
-element-copy-out-k c = omega arith
-
 cast-at : tie.Need-cast-at Inv-loop μ-loop
 cast-at c =
     let l = c .before .before in
@@ -41,12 +38,6 @@ array-write-seen : tie.Need-array-write-seen Inv-loop μ-loop
 array-write-seen c =
     let l = c .before .before .before in
     omega (arith, up-to-at lastKey (l .before .args .map .now) (l .loop .p) (l .before .pre .1))
-
-add-p : tie.Need-add-p Inv-loop μ-loop
-add-p c = omega arith
-
-loop-less : tie.Need-loop-less Inv-loop μ-loop
-loop-less c = omega arith
 
 loop-again : tie.Need-loop-again Inv-loop μ-loop
 loop-again c =
@@ -76,11 +67,11 @@ has-double-spec =
     Inv-loop
     μ-loop
     loop-holds
-    element-copy-out-k
+    (λ c. omega arith)  -- element-copy-out-k
     cast-at
     array-read-if1
     array-write-seen
-    add-p
-    loop-less
+    (λ c. omega arith)  -- add-p
+    (λ c. omega arith)  -- loop-less
     loop-again
     returns)

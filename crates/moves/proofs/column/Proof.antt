@@ -40,9 +40,6 @@ loop-holds c =
 cast-r : tie.Need-cast-r Inv-loop μ-loop
 cast-r c = omega (arith, trailing-le 32 (c .before .loop .turned))
 
-mul-contact-turned : tie.Need-mul-contact-turned Inv-loop μ-loop
-mul-contact-turned c = omega arith
-
 add-contact-turned : tie.Need-add-contact-turned Inv-loop μ-loop
 add-contact-turned c = omega (arith, trailing-le 32 (c .before .before .before .loop .turned))
 
@@ -64,9 +61,6 @@ contact-turned-requires c κs =
     let l = c .before .before .before .before in
     let p = l .before .pre in
     (l .loop .inv .1, p .1, l .loop .inv .2, up-to-at lastKey _ _ (p .4), p .5)
-
-sub-turned : tie.Need-sub-turned Inv-loop μ-loop
-sub-turned c = omega arith
 
 loop-less : tie.Need-loop-less Inv-loop μ-loop
 loop-less c = fewer (c .before .before .before .before .before .loop .turned) (omega arith)
@@ -98,13 +92,13 @@ column-spec =
     cast-turned
     loop-holds
     cast-r
-    mul-contact-turned
+    (λ c. omega arith)  -- mul-contact-turned
     add-contact-turned
     element-copy-out-contact-turned
     cast-contact-turned
     shr-contact-turned
     contact-turned-requires
-    sub-turned
+    (λ c. omega arith)  -- sub-turned
     loop-less
     loop-again
     returns)

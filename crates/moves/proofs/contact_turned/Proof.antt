@@ -9,20 +9,11 @@ returns : tie.Need-returns
 unfolding moved
 returns c = simp (eq-eqb _ _ (c .if1 .taken))
 
-element-copy-out-kind : tie.Need-element-copy-out-kind
-element-copy-out-kind c = search needs
-
-press-requires : tie.Need-press-requires
-press-requires c κs = search needs
-
 returns-2 : tie.Need-returns-2
 unfolding moved
 returns-2 c =
     let t = c .before .before .before in
     simp (ne-eqb _ _ (t .before .before .if1 .left), eq-eqb _ _ (t .if2 .taken)) (c .press .ensures)
-
-release-requires : tie.Need-release-requires
-release-requires c κs = search needs
 
 returns-3 : tie.Need-returns-3
 unfolding moved
@@ -33,4 +24,10 @@ returns-3 c =
 pub contact-turned-spec : {M : Type 1} → statement M
 contact-turned-spec =
     tie.close
-    (tie.spec returns element-copy-out-kind press-requires returns-2 release-requires returns-3)
+    (tie.spec
+    returns
+    (λ c. search needs)  -- element-copy-out-kind
+    (λ c κs. search needs)  -- press-requires
+    returns-2
+    (λ c κs. search needs)  -- release-requires
+    returns-3)

@@ -11,9 +11,6 @@ use Rattle.keying.proofs.Changes.{pressed-to-repeat, pressed-once}
 use Rattle.moves.proofs.press.Statement.{statement}
 use Rattle.moves.proofs.press.Tie as tie
 
-cast-send-press : tie.Need-cast-send-press
-cast-send-press c = search needs
-
 send-press-requires : tie.Need-send-press-requires
 send-press-requires c κs =
     let s = c .before .before .before in
@@ -27,12 +24,6 @@ cast-after c =
     let k = keysFrom (a .held .now) (a .bytes .now) (a .rest) in
     let few : c .send-press .result ≤ 16 = queued-short (queueWith _ (c .send-press .result)) (k .queue) _ _ (c .send-press .ensures) (good-keys-queue k (s .pre .0)) in
     omega arith
-
-element-write-held : tie.Need-element-write-held
-element-write-held c = search needs
-
-may-repeat-requires : tie.Need-may-repeat-requires
-may-repeat-requires c κs = search needs
 
 delay-of-requires : tie.Need-delay-of-requires
 delay-of-requires c κs = good-mode-rate _ (c .before .before .before .before .before .before .pre .1)
@@ -57,11 +48,11 @@ pub press-spec : {M : Type 1} → statement M
 press-spec =
     tie.close
     (tie.spec
-    cast-send-press
+    (λ c. search needs)  -- cast-send-press
     send-press-requires
     cast-after
-    element-write-held
-    may-repeat-requires
+    (λ c. search needs)  -- element-write-held
+    (λ c κs. search needs)  -- may-repeat-requires
     delay-of-requires
     returns
     returns-2)

@@ -11,9 +11,6 @@ use Rattle.keying.proofs.Changes.{released-repeats, released-only}
 use Rattle.moves.proofs.release.Statement.{statement}
 use Rattle.moves.proofs.release.Tie as tie
 
-cast-send-release : tie.Need-cast-send-release
-cast-send-release c = search needs
-
 send-release-requires : tie.Need-send-release-requires
 send-release-requires c κs =
     let s = c .before .before .before in
@@ -27,9 +24,6 @@ cast-after c =
     let k = keysFrom (a .held .now) (a .bytes .now) (a .rest) in
     let few : c .send-release .result ≤ 16 = queued-short (queueWith _ (c .send-release .result)) (k .queue) _ _ (c .send-release .ensures) (good-keys-queue k (s .pre .0)) in
     omega arith
-
-element-write-held : tie.Need-element-write-held
-element-write-held c = search needs
 
 returns : tie.Need-returns
 unfolding sends
@@ -46,6 +40,4 @@ returns-2 c =
     released-only (keysFrom (a .held .now) (a .bytes .now) (a .rest)) (a .mode) (a .kind) (a .key) _ (r .send-release .ensures) (c .if1 .left)
 
 pub release-spec : {M : Type 1} → statement M
-release-spec =
-    tie.close
-    (tie.spec cast-send-release send-release-requires cast-after element-write-held returns returns-2)
+release-spec = tie.close (tie.spec (λ c. search needs) send-release-requires cast-after (λ c. search needs) returns returns-2)

@@ -25,9 +25,6 @@ Inv-loop held₀ m types map was is table bytes₀ e₀ c₀ held bytes e c =
 abbrev μ-loop : tie.MeasureT-loop
 μ-loop held₀ m types map was is table bytes₀ e₀ c₀ held bytes e c = 18 - c
 
-table-requires : tie.Need-table-requires Inv-loop μ-loop
-table-requires c κs = search needs
-
 cast-t14 : tie.Need-cast-t14 Inv-loop μ-loop
 cast-t14 c =
     let s = c .before .before .before .before in
@@ -37,18 +34,6 @@ loop-holds : tie.Need-loop-holds Inv-loop μ-loop
 loop-holds c =
     let places : length (c .before .before .before .before .args .outgoing .queue .bytes) ≡ 16 = search needs in
     (omega arith, places, turns-none _ _ _ _ _ _)
-
-element-copy-out-if1 : tie.Need-element-copy-out-if1 Inv-loop μ-loop
-element-copy-out-if1 c = omega arith
-
-element-copy-out-if1-2 : tie.Need-element-copy-out-if1-2 Inv-loop μ-loop
-element-copy-out-if1-2 c = omega arith
-
-element-copy-out-column : tie.Need-element-copy-out-column Inv-loop μ-loop
-element-copy-out-column c = omega arith
-
-element-copy-out-column-2 : tie.Need-element-copy-out-column-2 Inv-loop μ-loop
-element-copy-out-column-2 c = omega arith
 
 column-requires : tie.Need-column-requires Inv-loop μ-loop
 column-requires c κs =
@@ -63,12 +48,6 @@ column-requires c κs =
     ∙ turns-bytes (a .mode) (a .types .now) (a .map .now) (p .2) _ (a .was .now) (a .is .now) k (l .loop .inv .1) in
     (good, p .1, kept, t .loop-test .taken, p .2, l .before .before .before .before .table .ensures)
 
-add-c : tie.Need-add-c Inv-loop μ-loop
-add-c c = omega arith
-
-loop-less : tie.Need-loop-less Inv-loop μ-loop
-loop-less c = omega arith
-
 loop-again : tie.Need-loop-again Inv-loop μ-loop
 loop-again c =
     let l = c .before .before .before .before in
@@ -82,9 +61,6 @@ loop-again c =
     (c .if1 .came) in
     (omega arith, l .loop .inv .1, again)
 
-cast-t32 : tie.Need-cast-t32 Inv-loop μ-loop
-cast-t32 c = search needs
-
 returns : tie.Need-returns Inv-loop μ-loop
 returns c =
     let l = c .before .before .loop in
@@ -97,16 +73,16 @@ turns-spec =
     (tie.spec
     Inv-loop
     μ-loop
-    table-requires
+    (λ c κs. search needs)  -- table-requires
     cast-t14
     loop-holds
-    element-copy-out-if1
-    element-copy-out-if1-2
-    element-copy-out-column
-    element-copy-out-column-2
+    (λ c. omega arith)  -- element-copy-out-if1
+    (λ c. omega arith)  -- element-copy-out-if1-2
+    (λ c. omega arith)  -- element-copy-out-column
+    (λ c. omega arith)  -- element-copy-out-column-2
     column-requires
-    add-c
-    loop-less
+    (λ c. omega arith)  -- add-c
+    (λ c. omega arith)  -- loop-less
     loop-again
-    cast-t32
+    (λ c. search needs)  -- cast-t32
     returns)

@@ -21,18 +21,6 @@ abbrev μ-loop : tie.MeasureT-loop
 loop-holds : tie.Need-loop-holds Inv-loop μ-loop
 loop-holds c = refl
 
-shared-slice-read-two-closed : tie.Need-shared-slice-read-two-closed Inv-loop μ-loop
-shared-slice-read-two-closed c = omega arith
-
-two-closed-requires : tie.Need-two-closed-requires Inv-loop μ-loop
-two-closed-requires c κs = search needs
-
-add-i : tie.Need-add-i Inv-loop μ-loop
-add-i c = omega arith
-
-loop-less : tie.Need-loop-less Inv-loop μ-loop
-loop-less c = omega arith
-
 loop-again : tie.Need-loop-again Inv-loop μ-loop
 loop-again c =
     let t = c .before .before .before in
@@ -52,9 +40,9 @@ any-two-closed-spec =
     Inv-loop
     μ-loop
     loop-holds
-    shared-slice-read-two-closed
-    two-closed-requires
-    add-i
-    loop-less
+    (λ c. omega arith)  -- shared-slice-read-two-closed
+    (λ c κs. search needs)  -- two-closed-requires
+    (λ c. omega arith)  -- add-i
+    (λ c. omega arith)  -- loop-less
     loop-again
     returns)

@@ -19,35 +19,11 @@ Inv-loop scan columns found₀ d₀ found d = (1 ≤ d) × (d ≤ 18) × (found 
 abbrev μ-loop : tie.MeasureT-loop
 μ-loop scan columns found₀ d₀ found d = 18 - d
 
-any-two-closed-requires : tie.Need-any-two-closed-requires Inv-loop μ-loop
-any-two-closed-requires c κs = search needs
-
 returns : tie.Need-returns Inv-loop μ-loop
 returns c = few-phantom _ _ (c .before .any-two-closed .ensures) (not-true _ (c .if1 .taken))
 
-padded-requires : tie.Need-padded-requires Inv-loop μ-loop
-padded-requires c κs = search needs
-
-array-read-two-closed : tie.Need-array-read-two-closed Inv-loop μ-loop
-array-read-two-closed c = search needs
-
-array-read-two-closed-2 : tie.Need-array-read-two-closed-2 Inv-loop μ-loop
-array-read-two-closed-2 c = search needs
-
-two-closed-requires : tie.Need-two-closed-requires Inv-loop μ-loop
-two-closed-requires c κs = search needs
-
 loop-holds : tie.Need-loop-holds Inv-loop μ-loop
 loop-holds c = (omega arith, omega arith, last-two _ _ (c .two-closed .ensures))
-
-shares-at-requires : tie.Need-shares-at-requires Inv-loop μ-loop
-shares-at-requires c κs = search needs
-
-add-d : tie.Need-add-d Inv-loop μ-loop
-add-d c = omega arith
-
-loop-less : tie.Need-loop-less Inv-loop μ-loop
-loop-less c = omega arith
 
 loop-again : tie.Need-loop-again Inv-loop μ-loop
 loop-again c =
@@ -74,15 +50,15 @@ is-phantom-spec =
     (tie.spec
     Inv-loop
     μ-loop
-    any-two-closed-requires
+    (λ c κs. search needs)  -- any-two-closed-requires
     returns
-    padded-requires
-    array-read-two-closed
-    array-read-two-closed-2
-    two-closed-requires
+    (λ c κs. search needs)  -- padded-requires
+    (λ c. search needs)  -- array-read-two-closed
+    (λ c. search needs)  -- array-read-two-closed-2
+    (λ c κs. search needs)  -- two-closed-requires
     loop-holds
-    shares-at-requires
-    add-d
-    loop-less
+    (λ c κs. search needs)  -- shares-at-requires
+    (λ c. omega arith)  -- add-d
+    (λ c. omega arith)  -- loop-less
     loop-again
     returns-2)

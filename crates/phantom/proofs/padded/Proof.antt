@@ -19,18 +19,6 @@ abbrev μ-loop : tie.MeasureT-loop
 loop-holds : tie.Need-loop-holds Inv-loop μ-loop
 loop-holds c = (omega arith, refl, (λ k h. omega arith), (λ k h. zeros-at 36 k))
 
-shared-slice-read-columns : tie.Need-shared-slice-read-columns Inv-loop μ-loop
-shared-slice-read-columns c = omega arith
-
-array-write-columns : tie.Need-array-write-columns Inv-loop μ-loop
-array-write-columns c = omega arith
-
-add-i : tie.Need-add-i Inv-loop μ-loop
-add-i c = omega arith
-
-loop-less : tie.Need-loop-less Inv-loop μ-loop
-loop-less c = omega arith
-
 loop-again : tie.Need-loop-again Inv-loop μ-loop
 loop-again c =
     let l = c .before .before in
@@ -53,9 +41,9 @@ padded-spec =
     Inv-loop
     μ-loop
     loop-holds
-    shared-slice-read-columns
-    array-write-columns
-    add-i
-    loop-less
+    (λ c. omega arith)  -- shared-slice-read-columns
+    (λ c. omega arith)  -- array-write-columns
+    (λ c. omega arith)  -- add-i
+    (λ c. omega arith)  -- loop-less
     loop-again
     returns)

@@ -19,24 +19,6 @@ abbrev μ-loop : tie.MeasureT-loop
 loop-holds : tie.Need-loop-holds Inv-loop μ-loop
 loop-holds c = (omega arith, no-pair _ _)
 
-element-copy-out-two-closed : tie.Need-element-copy-out-two-closed Inv-loop μ-loop
-element-copy-out-two-closed c = omega arith
-
-add-two-closed : tie.Need-add-two-closed Inv-loop μ-loop
-add-two-closed c = omega arith
-
-element-copy-out-two-closed-2 : tie.Need-element-copy-out-two-closed-2 Inv-loop μ-loop
-element-copy-out-two-closed-2 c = omega arith
-
-two-closed-requires : tie.Need-two-closed-requires Inv-loop μ-loop
-two-closed-requires c κs = search needs
-
-add-j : tie.Need-add-j Inv-loop μ-loop
-add-j c = omega arith
-
-loop-less : tie.Need-loop-less Inv-loop μ-loop
-loop-less c = omega arith
-
 loop-again : tie.Need-loop-again Inv-loop μ-loop
 loop-again c =
     let two = c .before .two-closed .ensures in
@@ -59,11 +41,11 @@ shares-at-spec =
     Inv-loop
     μ-loop
     loop-holds
-    element-copy-out-two-closed
-    add-two-closed
-    element-copy-out-two-closed-2
-    two-closed-requires
-    add-j
-    loop-less
+    (λ c. omega arith)  -- element-copy-out-two-closed
+    (λ c. omega arith)  -- add-two-closed
+    (λ c. omega arith)  -- element-copy-out-two-closed-2
+    (λ c κs. search needs)  -- two-closed-requires
+    (λ c. omega arith)  -- add-j
+    (λ c. omega arith)  -- loop-less
     loop-again
     returns)

@@ -10,9 +10,6 @@ use Rattle.queue.proofs.Pushing.{pushed-alone}
 use Rattle.queue.proofs.alone.Statement.{statement}
 use Rattle.queue.proofs.alone.Tie as tie
 
-empty-requires : tie.Need-empty-requires
-empty-requires c κs = search needs
-
 pushed-requires : tie.Need-pushed-requires
 pushed-requires c κs = (ap tidy (c .empty .ensures) ∙ tidy-queueOf [] (omega arith), c .before .pre)
 
@@ -23,4 +20,4 @@ returns c =
     c .pushed .ensures ∙ pushed-alone _ s 0 (c .before .empty .ensures) (c .before .before .pre) places
 
 pub alone-spec : {M : Type 1} → statement M
-alone-spec = tie.close (tie.spec empty-requires pushed-requires returns)
+alone-spec = tie.close (tie.spec (λ c κs. search needs) pushed-requires returns)

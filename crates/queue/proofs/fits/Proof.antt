@@ -8,9 +8,6 @@ use Rattle.queue.proofs.Meaning.{count-waiting}
 use Rattle.queue.proofs.fits.Statement.{statement}
 use Rattle.queue.proofs.fits.Tie as tie
 
-add-result : tie.Need-add-result
-add-result c = search needs
-
 returns : tie.Need-returns
 returns c =
     let a = c .before .before .args in
@@ -18,4 +15,4 @@ returns c =
     ap (λ (n : ℕ). leb (n + a .sequence .length) 16) (sym (count-waiting (a .queue) places (c .before .before .pre .0)))
 
 pub fits-spec : {M : Type 1} → statement M
-fits-spec = tie.close (tie.spec add-result returns)
+fits-spec = tie.close (tie.spec (λ c. search needs) returns)

@@ -19,15 +19,6 @@ abbrev μ-loop : tie.MeasureT-loop
 loop-holds : tie.Need-loop-holds Inv-loop μ-loop
 loop-holds c = (omega arith, seen-none _ _ _)
 
-element-copy-out-good : tie.Need-element-copy-out-good Inv-loop μ-loop
-element-copy-out-good c = omega arith
-
-add-i : tie.Need-add-i Inv-loop μ-loop
-add-i c = omega arith
-
-loop-less : tie.Need-loop-less Inv-loop μ-loop
-loop-less c = omega arith
-
 loop-again : tie.Need-loop-again Inv-loop μ-loop
 loop-again c =
     let q = c .before .before .before .args .t1 in
@@ -45,4 +36,12 @@ returns c =
 pub is-tidy-spec : {M : Type 1} → statement M
 is-tidy-spec =
     tie.close
-    (tie.spec Inv-loop μ-loop loop-holds element-copy-out-good add-i loop-less loop-again returns)
+    (tie.spec
+    Inv-loop
+    μ-loop
+    loop-holds
+    (λ c. omega arith)  -- element-copy-out-good
+    (λ c. omega arith)  -- add-i
+    (λ c. omega arith)  -- loop-less
+    loop-again
+    returns)

@@ -25,24 +25,6 @@ returns c =
 loop-holds : tie.Need-loop-holds Inv-loop μ-loop
 loop-holds c = (omega arith, moved-none _)
 
-add-if2 : tie.Need-add-if2 Inv-loop μ-loop
-add-if2 c = omega arith
-
-add-after : tie.Need-add-after Inv-loop μ-loop
-add-after c = omega arith
-
-element-copy-out-after : tie.Need-element-copy-out-after Inv-loop μ-loop
-element-copy-out-after c = omega arith
-
-element-write-after : tie.Need-element-write-after Inv-loop μ-loop
-element-write-after c = omega arith
-
-add-i : tie.Need-add-i Inv-loop μ-loop
-add-i c = omega arith
-
-loop-less : tie.Need-loop-less Inv-loop μ-loop
-loop-less c = omega arith
-
 loop-again : tie.Need-loop-again Inv-loop μ-loop
 loop-again c =
     let s = c .before .before .before .before in
@@ -51,12 +33,6 @@ loop-again c =
     let places : length (q .bytes) ≡ 16 = search needs in
     let byte : c .if2 .after ≡ getD (q .bytes) (l .i + 1) 0 = ⊎-elim (λ w. w .2) (λ w. w .1 ∙ zero-past q (s .pre) (l .i + 1) (w .0 .left)) (c .if2 .came) in
     (omega arith, moved-more (q .bytes) (l .after .bytes) (l .i) (c .if2 .after) (l .inv .1) byte (omega arith))
-
-element-write-after-2 : tie.Need-element-write-after-2 Inv-loop μ-loop
-element-write-after-2 c = search needs
-
-sub-after : tie.Need-sub-after Inv-loop μ-loop
-sub-after c = omega arith
 
 returns-2 : tie.Need-returns-2 Inv-loop μ-loop
 returns-2 c =
@@ -72,13 +48,13 @@ popped-spec =
     μ-loop
     returns
     loop-holds
-    add-if2
-    add-after
-    element-copy-out-after
-    element-write-after
-    add-i
-    loop-less
+    (λ c. omega arith)  -- add-if2
+    (λ c. omega arith)  -- add-after
+    (λ c. omega arith)  -- element-copy-out-after
+    (λ c. omega arith)  -- element-write-after
+    (λ c. omega arith)  -- add-i
+    (λ c. omega arith)  -- loop-less
     loop-again
-    element-write-after-2
-    sub-after
+    (λ c. search needs)  -- element-write-after-2
+    (λ c. omega arith)  -- sub-after
     returns-2)

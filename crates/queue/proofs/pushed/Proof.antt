@@ -20,9 +20,6 @@ abbrev μ-loop : tie.MeasureT-loop
 sub-if1 : tie.Need-sub-if1 Inv-loop μ-loop
 sub-if1 c = omega (arith, tidy-short _ (c .pre .0))
 
-sub-after : tie.Need-sub-after Inv-loop μ-loop
-sub-after c = omega arith
-
 element-write-after : tie.Need-element-write-after Inv-loop μ-loop
 element-write-after c = omega (arith, tidy-short _ (c .before .pre .0))
 
@@ -36,20 +33,8 @@ returns c =
 loop-holds : tie.Need-loop-holds Inv-loop μ-loop
 loop-holds c = (omega arith, paste-zero (c .before .args .queue .bytes) (c .before .args .queue .length) (c .before .args .t2 .bytes))
 
-element-copy-out-after : tie.Need-element-copy-out-after Inv-loop μ-loop
-element-copy-out-after c = omega arith
-
-add-after : tie.Need-add-after Inv-loop μ-loop
-add-after c = omega arith
-
 element-write-after-2 : tie.Need-element-write-after-2 Inv-loop μ-loop
 element-write-after-2 c = omega (arith, tidy-short _ (c .before .before .before .before .pre .0))
-
-add-i : tie.Need-add-i Inv-loop μ-loop
-add-i c = omega arith
-
-loop-less : tie.Need-loop-less Inv-loop μ-loop
-loop-less c = omega arith
 
 loop-again : tie.Need-loop-again Inv-loop μ-loop
 loop-again c =
@@ -80,15 +65,15 @@ pushed-spec =
     Inv-loop
     μ-loop
     sub-if1
-    sub-after
+    (λ c. omega arith)  -- sub-after
     element-write-after
     returns
     loop-holds
-    element-copy-out-after
-    add-after
+    (λ c. omega arith)  -- element-copy-out-after
+    (λ c. omega arith)  -- add-after
     element-write-after-2
-    add-i
-    loop-less
+    (λ c. omega arith)  -- add-i
+    (λ c. omega arith)  -- loop-less
     loop-again
     add-after-2
     returns-2)

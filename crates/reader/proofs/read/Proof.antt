@@ -17,13 +17,10 @@ returns-3 : tie.Need-returns-3
 returns-3 c =
     answering (reading-says _ _ _) (set-too-high _ _ _ (c .before .before .if1 .left) (c .before .if2 .left) (c .if3 .taken))
 
-read-byte-requires : tie.Need-read-byte-requires
-read-byte-requires c κs = search needs
-
 returns-4 : tie.Need-returns-4
 returns-4 c =
     let b = c .before .before in
     answering (reading-says _ _ _) (c .read-byte .ensures ∙ taken _ _ _ (b .before .if1 .left) (b .if2 .left) (c .before .if3 .left))
 
 pub read-spec : {M : Type 1} → statement M
-read-spec = tie.close (tie.spec returns returns-2 returns-3 read-byte-requires returns-4)
+read-spec = tie.close (tie.spec returns returns-2 returns-3 (λ c κs. search needs) returns-4)

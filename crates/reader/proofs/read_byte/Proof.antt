@@ -5,24 +5,9 @@ use Rattle.reader.specs.Reader.{readByte}
 use Rattle.reader.proofs.read_byte.Statement.{statement}
 use Rattle.reader.proofs.read_byte.Tie as tie
 
-mark-of-requires : tie.Need-mark-of-requires
-mark-of-requires c κs = search needs
-
-end-requires : tie.Need-end-requires
-end-requires c κs = search needs
-
 returns : tie.Need-returns
 unfolding readByte
 returns c = rw (← c .before .before .mark-of .ensures, eq-eqb _ _ (c .before .if1 .taken)) (c .end .ensures)
-
-read1-requires : tie.Need-read1-requires
-read1-requires c κs = search needs
-
-read2-requires : tie.Need-read2-requires
-read2-requires c κs = search needs
-
-read3-requires : tie.Need-read3-requires
-read3-requires c κs = search needs
 
 returns-2 : tie.Need-returns-2
 unfolding readByte
@@ -47,12 +32,12 @@ pub read-byte-spec : {M : Type 1} → statement M
 read-byte-spec =
     tie.close
     (tie.spec
-    mark-of-requires
-    end-requires
+    (λ c κs. search needs)  -- mark-of-requires
+    (λ c κs. search needs)  -- end-requires
     returns
-    read1-requires
-    read2-requires
-    read3-requires
+    (λ c κs. search needs)  -- read1-requires
+    (λ c κs. search needs)  -- read2-requires
+    (λ c κs. search needs)  -- read3-requires
     returns-2
     returns-3
     returns-4)

@@ -4,12 +4,6 @@ use Rattle.reader.proofs.Presses.{passed-over, taken-out}
 use Rattle.reader.proofs.read_press.Statement.{statement}
 use Rattle.reader.proofs.read_press.Tie as tie
 
-read-requires : tie.Need-read-requires
-read-requires c κs = search needs
-
-enum-known-event : tie.Need-enum-known-event
-enum-known-event c = search needs
-
 returns : tie.Need-returns
 returns c = passed-over _ _ (c .before .read .ensures .answer) (c .match .keys2)
 
@@ -17,4 +11,4 @@ returns-2 : tie.Need-returns-2
 returns-2 c = taken-out _ _ (c .before .before .before .read .ensures .answer) _ (c .before .event .given .1)
 
 pub read-press-spec : {M : Type 1} → statement M
-read-press-spec = tie.close (tie.spec read-requires enum-known-event returns returns-2)
+read-press-spec = tie.close (tie.spec (λ c κs. search needs) (λ c. search needs) returns returns-2)

@@ -6,15 +6,6 @@ use Rattle.replies.proofs.ReplyMeaning.{tidy-by-place}
 use Rattle.replies.proofs.is_tidy.Statement.{statement}
 use Rattle.replies.proofs.is_tidy.Tie as tie
 
-element-copy-out-result : tie.Need-element-copy-out-result
-element-copy-out-result c = search needs
-
-element-copy-out-result-2 : tie.Need-element-copy-out-result-2
-element-copy-out-result-2 c = search needs
-
-element-copy-out-result-3 : tie.Need-element-copy-out-result-3
-element-copy-out-result-3 c = search needs
-
 returns : tie.Need-returns
 returns c =
     let r = c .before .before .before .args .t1 in
@@ -22,6 +13,4 @@ returns c =
     tidy-by-place r places
 
 pub is-tidy-spec : {M : Type 1} → statement M
-is-tidy-spec =
-    tie.close
-    (tie.spec element-copy-out-result element-copy-out-result-2 element-copy-out-result-3 returns)
+is-tidy-spec = tie.close (tie.spec (λ c. search needs) (λ c. search needs) (λ c. search needs) returns)

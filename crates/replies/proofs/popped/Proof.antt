@@ -6,15 +6,6 @@ use Rattle.replies.proofs.ReplyMeaning.{popped-by-place}
 use Rattle.replies.proofs.popped.Statement.{statement}
 use Rattle.replies.proofs.popped.Tie as tie
 
-element-copy-out-t5 : tie.Need-element-copy-out-t5
-element-copy-out-t5 c = search needs
-
-element-copy-out-t8 : tie.Need-element-copy-out-t8
-element-copy-out-t8 c = search needs
-
-sub-t11 : tie.Need-sub-t11
-sub-t11 c = search needs
-
 returns : tie.Need-returns
 returns c =
     let s = c .before .before in
@@ -23,4 +14,4 @@ returns c =
     popped-by-place r (s .pre .0) (s .pre .1) places
 
 pub popped-spec : {M : Type 1} → statement M
-popped-spec = tie.close (tie.spec element-copy-out-t5 element-copy-out-t8 sub-t11 returns)
+popped-spec = tie.close (tie.spec (λ c. search needs) (λ c. search needs) (λ c. search needs) returns)

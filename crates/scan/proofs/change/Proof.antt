@@ -7,9 +7,6 @@ use Rattle.dock.proofs.Scanning.{phantom-changes-nothing, believed-is-counted}
 use Rattle.scan.proofs.change.Statement.{statement}
 use Rattle.scan.proofs.change.Tie as tie
 
-at-rest-requires : tie.Need-at-rest-requires
-at-rest-requires c κs = search needs
-
 returns : tie.Need-returns
 returns c =
     let known = c .before .before .before .before in
@@ -17,16 +14,10 @@ returns c =
     rest-changes-nothing (dockWith (a .map .now) (a .closed .now) (a .counts .now) (a .held .now) (a .types .now) (a .rest)) (a .scan .now) _
     (λ i. omega (arith, known .shared-slice-known .given i)) (c .before .at-rest .ensures) (c .if1 .taken)
 
-is-phantom-requires : tie.Need-is-phantom-requires
-is-phantom-requires c κs = search needs
-
 returns-2 : tie.Need-returns-2
 returns-2 c =
     let a = c .before .before .before .before .before .before .before .args in
     phantom-changes-nothing (dockWith (a .map .now) (a .closed .now) (a .counts .now) (a .held .now) (a .types .now) (a .rest)) (a .scan .now) _ (c .before .is-phantom .ensures) (c .if2 .taken)
-
-count-requires : tie.Need-count-requires
-count-requires c κs = search needs
 
 returns-3 : tie.Need-returns-3
 returns-3 c =
@@ -35,6 +26,4 @@ returns-3 c =
     believed-is-counted (dockWith (a .map .now) (a .closed .now) (a .counts .now) (a .held .now) (a .types .now) (a .rest)) (a .scan .now) _ (believed .before .is-phantom .ensures) (believed .if2 .left) _ (c .count .ensures)
 
 pub change-spec : {M : Type 1} → statement M
-change-spec =
-    tie.close
-    (tie.spec at-rest-requires returns is-phantom-requires returns-2 count-requires returns-3)
+change-spec = tie.close (tie.spec (λ c κs. search needs) returns (λ c κs. search needs) returns-2 (λ c κs. search needs) returns-3)

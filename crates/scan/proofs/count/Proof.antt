@@ -8,9 +8,6 @@ use Rattle.dock.proofs.Scanning.{counted-by-parts}
 use Rattle.scan.proofs.count.Statement.{statement}
 use Rattle.scan.proofs.count.Tie as tie
 
-count-requires : tie.Need-count-requires
-count-requires c κs = search needs
-
 turns-requires : tie.Need-turns-requires
 turns-requires c κs =
     let s = c .before .before .before .before .before .before .before .before .before .before in
@@ -26,4 +23,4 @@ returns c =
     (contacts (n .count .last .0) (n .count .last .1 .0)) (keysWith (c .turns .last .0) (c .turns .result)) (n .count .ensures) (c .turns .ensures)
 
 pub count-spec : {M : Type 1} → statement M
-count-spec = tie.close (tie.spec count-requires turns-requires returns)
+count-spec = tie.close (tie.spec (λ c κs. search needs) turns-requires returns)

@@ -10,9 +10,6 @@ use Rattle.dock.proofs.Scanning.{heard-whole}
 use Rattle.scan.proofs.hear.Statement.{statement}
 use Rattle.scan.proofs.hear.Tie as tie
 
-tick-requires : tie.Need-tick-requires
-tick-requires c κs = search needs
-
 change-requires : tie.Need-change-requires
 change-requires c κs =
     let tick = c .before .before .before in
@@ -40,4 +37,4 @@ returns c =
     (c .repeat .ensures (a .map .now) (after .last .1 .0) (after .last .1 .1 .0))
 
 pub hear-spec : {M : Type 1} → statement M
-hear-spec = tie.close (tie.spec tick-requires change-requires repeat-requires returns)
+hear-spec = tie.close (tie.spec (λ c κs. search needs) change-requires repeat-requires returns)

@@ -13,9 +13,6 @@ returns c =
     let a = s .args in
     scan-wrong-length (dockWith (a .map .now) (a .closed .now) (a .counts .now) (a .held .now) (a .types .now) (a .rest)) (a .scan .now) (s .pre .0) (c .if1 .taken)
 
-is-listening-requires : tie.Need-is-listening-requires
-is-listening-requires c κs = search needs
-
 close-in-place-requires : tie.Need-close-in-place-requires
 close-in-place-requires c κs =
     let s = c .before .before .before .before .before in
@@ -49,12 +46,4 @@ returns-3 c =
     _ (not-false _ (listens .if2 .left)) (c .hear .ensures)
 
 pub scan-in-place-spec : {M : Type 1} → statement M
-scan-in-place-spec =
-    tie.close
-    (tie.spec
-    returns
-    is-listening-requires
-    close-in-place-requires
-    returns-2
-    hear-requires
-    returns-3)
+scan-in-place-spec = tie.close (tie.spec returns (λ c κs. search needs) close-in-place-requires returns-2 hear-requires returns-3)

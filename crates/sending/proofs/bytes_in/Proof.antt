@@ -7,9 +7,6 @@ use Rattle.sending.specs.Sending.{numLock}
 use Rattle.sending.proofs.bytes_in.Statement.{statement}
 use Rattle.sending.proofs.bytes_in.Tie as tie
 
-has-forms-requires : tie.Need-has-forms-requires
-has-forms-requires c κs = search needs
-
 plain-sequence-requires : tie.Need-plain-sequence-requires
 plain-sequence-requires c κs = (c .before .before .pre, sym (c .before .has-forms .ensures) ∙ not-true _ (c .if1 .taken))
 
@@ -18,15 +15,6 @@ returns c =
     let a = c .before .before .before .args in
     c .plain-sequence .ensures (modifiersOf (a .held .now)) (numLock (a .mode .indicators))
 
-modifiers-of-requires : tie.Need-modifiers-of-requires
-modifiers-of-requires c κs = search needs
-
-num-lock-requires : tie.Need-num-lock-requires
-num-lock-requires c κs = search needs
-
-sequence-in-requires : tie.Need-sequence-in-requires
-sequence-in-requires c κs = search needs
-
 returns-2 : tie.Need-returns-2
 returns-2 c = rw (c .before .before .modifiers-of .ensures, c .before .num-lock .ensures) at (c .sequence-in .ensures)
 
@@ -34,10 +22,10 @@ pub bytes-in-spec : {M : Type 1} → statement M
 bytes-in-spec =
     tie.close
     (tie.spec
-    has-forms-requires
+    (λ c κs. search needs)  -- has-forms-requires
     plain-sequence-requires
     returns
-    modifiers-of-requires
-    num-lock-requires
-    sequence-in-requires
+    (λ c κs. search needs)  -- modifiers-of-requires
+    (λ c κs. search needs)  -- num-lock-requires
+    (λ c κs. search needs)  -- sequence-in-requires
     returns-2)

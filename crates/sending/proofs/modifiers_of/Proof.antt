@@ -6,33 +6,6 @@ use Rattle.sending.proofs.Sent.{pair-small, three-pairs}
 use Rattle.sending.proofs.modifiers_of.Statement.{statement}
 use Rattle.sending.proofs.modifiers_of.Tie as tie
 
-element-copy-out-pair : tie.Need-element-copy-out-pair
-element-copy-out-pair c = search needs
-
-element-copy-out-pair-2 : tie.Need-element-copy-out-pair-2
-element-copy-out-pair-2 c = search needs
-
-pair-requires : tie.Need-pair-requires
-pair-requires c κs = search needs
-
-element-copy-out-pair-3 : tie.Need-element-copy-out-pair-3
-element-copy-out-pair-3 c = search needs
-
-element-copy-out-pair-4 : tie.Need-element-copy-out-pair-4
-element-copy-out-pair-4 c = search needs
-
-pair-requires-2 : tie.Need-pair-requires-2
-pair-requires-2 c κs = search needs
-
-element-copy-out-pair-5 : tie.Need-element-copy-out-pair-5
-element-copy-out-pair-5 c = search needs
-
-element-copy-out-pair-6 : tie.Need-element-copy-out-pair-6
-element-copy-out-pair-6 c = search needs
-
-pair-requires-3 : tie.Need-pair-requires-3
-pair-requires-3 c κs = search needs
-
 mul-result : tie.Need-mul-result
 mul-result c =
     let ctrl = c .before .before .before in
@@ -77,15 +50,15 @@ pub modifiers-of-spec : {M : Type 1} → statement M
 modifiers-of-spec =
     tie.close
     (tie.spec
-    element-copy-out-pair
-    element-copy-out-pair-2
-    pair-requires
-    element-copy-out-pair-3
-    element-copy-out-pair-4
-    pair-requires-2
-    element-copy-out-pair-5
-    element-copy-out-pair-6
-    pair-requires-3
+    (λ c. search needs)  -- element-copy-out-pair
+    (λ c. search needs)  -- element-copy-out-pair-2
+    (λ c κs. search needs)  -- pair-requires
+    (λ c. search needs)  -- element-copy-out-pair-3
+    (λ c. search needs)  -- element-copy-out-pair-4
+    (λ c κs. search needs)  -- pair-requires-2
+    (λ c. search needs)  -- element-copy-out-pair-5
+    (λ c. search needs)  -- element-copy-out-pair-6
+    (λ c κs. search needs)  -- pair-requires-3
     mul-result
     add-result
     mul-result-2

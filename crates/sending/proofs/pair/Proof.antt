@@ -5,12 +5,6 @@ use Rattle.sending.proofs.Sent.{flag-small}
 use Rattle.sending.proofs.pair.Statement.{statement}
 use Rattle.sending.proofs.pair.Tie as tie
 
-flag-requires : tie.Need-flag-requires
-flag-requires c = search needs
-
-flag-requires-2 : tie.Need-flag-requires-2
-flag-requires-2 c = search needs
-
 mul-result : tie.Need-mul-result
 mul-result c = omega (arith, flag-small (c .before .before .args .high) _ (c .flag2 .ensures))
 
@@ -23,4 +17,4 @@ returns : tie.Need-returns
 returns c = rw (c .before .flag .ensures, c .flag2 .ensures)
 
 pub pair-spec : {M : Type 1} → statement M
-pair-spec = tie.close (tie.spec flag-requires flag-requires-2 mul-result add-result returns)
+pair-spec = tie.close (tie.spec (λ c. search needs) (λ c. search needs) mul-result add-result returns)

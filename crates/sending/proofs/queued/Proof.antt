@@ -4,15 +4,9 @@ use Rattle.sending.specs.Sending.{queuedOf}
 use Rattle.sending.proofs.queued.Statement.{statement}
 use Rattle.sending.proofs.queued.Tie as tie
 
-mark-of-requires : tie.Need-mark-of-requires
-mark-of-requires c κs = search needs
-
-pushed-requires : tie.Need-pushed-requires
-pushed-requires c κs = search needs
-
 returns : tie.Need-returns
 unfolding queuedOf
 returns c = rw (c .before .mark-of .ensures) at (c .pushed .ensures)
 
 pub queued-spec : {M : Type 1} → statement M
-queued-spec = tie.close (tie.spec mark-of-requires pushed-requires returns)
+queued-spec = tie.close (tie.spec (λ c κs. search needs) (λ c κs. search needs) returns)

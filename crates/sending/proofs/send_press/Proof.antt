@@ -10,24 +10,12 @@ use Rattle.sending.proofs.Silence.{press-some, full-marks, pushed-queue
 use Rattle.sending.proofs.send_press.Statement.{statement}
 use Rattle.sending.proofs.send_press.Tie as tie
 
-mark-of-requires : tie.Need-mark-of-requires
-mark-of-requires c κs = search needs
-
-element-write-bytes : tie.Need-element-write-bytes
-element-write-bytes c = search needs
-
 returns : tie.Need-returns
 returns c =
     let s = c .before .before in
     let a = s .args in
     full-marks (a .bytes .now) (a .at) (a .mode) _ (s .pre .0) (s .pre .1) _ (c .mark-of .ensures) (c .before .if1 .taken)
     (press-some (a .mode .set) (a .key) (a .kind) (modifiersOf (a .held .now)) (numLock (a .mode .indicators)))
-
-bytes-in-requires : tie.Need-bytes-in-requires
-bytes-in-requires c κs = search needs
-
-mark-of-requires-2 : tie.Need-mark-of-requires-2
-mark-of-requires-2 c κs = search needs
 
 push-requires : tie.Need-push-requires
 unfolding sends
@@ -50,10 +38,10 @@ pub send-press-spec : {M : Type 1} → statement M
 send-press-spec =
     tie.close
     (tie.spec
-    mark-of-requires
-    element-write-bytes
+    (λ c κs. search needs)  -- mark-of-requires
+    (λ c. search needs)  -- element-write-bytes
     returns
-    bytes-in-requires
-    mark-of-requires-2
+    (λ c κs. search needs)  -- bytes-in-requires
+    (λ c κs. search needs)  -- mark-of-requires-2
     push-requires
     returns-2)

@@ -27,12 +27,6 @@ returns c =
 sub-if2 : tie.Need-sub-if2
 sub-if2 c = tidy-short _ (c .before .before .pre .0)
 
-shortest-release-requires : tie.Need-shortest-release-requires
-shortest-release-requires c κs = search needs
-
-mark-of-requires : tie.Need-mark-of-requires
-mark-of-requires c κs = search needs
-
 sub-bytes : tie.Need-sub-bytes
 sub-bytes c =
     let t = c .before in
@@ -52,12 +46,6 @@ returns-2 c =
     let long = release-long (a .mode .set) (a .key) (a .kind) (modifiersOf (a .held .now)) (numLock (a .mode .indicators)) _ (e .before .is-silent .ensures) (e .if1 .left) in
     no-room-marks (a .bytes .now) (a .at) (a .mode) _ (s .pre .0) (s .pre .1) _ (c .mark-of .ensures)
     (little-room (a .mode .set) _ _ least (t .if2 .taken)) (too-long (a .mode .set) _ _ _ least long (t .if2 .taken))
-
-bytes-in-requires : tie.Need-bytes-in-requires
-bytes-in-requires c κs = search needs
-
-mark-of-requires-2 : tie.Need-mark-of-requires-2
-mark-of-requires-2 c κs = search needs
 
 push-requires : tie.Need-push-requires
 unfolding sends
@@ -83,12 +71,12 @@ send-release-spec =
     is-silent-requires
     returns
     sub-if2
-    shortest-release-requires
-    mark-of-requires
+    (λ c κs. search needs)  -- shortest-release-requires
+    (λ c κs. search needs)  -- mark-of-requires
     sub-bytes
     element-write-bytes
     returns-2
-    bytes-in-requires
-    mark-of-requires-2
+    (λ c κs. search needs)  -- bytes-in-requires
+    (λ c κs. search needs)  -- mark-of-requires-2
     push-requires
     returns-3)

@@ -5,9 +5,6 @@ use borrow.Author.Needs.{needs}
 use Rattle.strokes.proofs.code_of.Statement.{statement}
 use Rattle.strokes.proofs.code_of.Tie as tie
 
-is-other-print-requires : tie.Need-is-other-print-requires
-is-other-print-requires c κs = search needs
-
 returns : tie.Need-returns
 unfolding codeOf
 returns c = rw (← c .before .before .is-other-print .ensures, c .before .if1 .taken, c .if2 .taken)
@@ -16,12 +13,9 @@ returns-2 : tie.Need-returns-2
 unfolding codeOf
 returns-2 c = rw (← c .before .before .is-other-print .ensures, c .before .if1 .taken, ne-eqb _ _ (c .if2 .left))
 
-code-in-requires : tie.Need-code-in-requires
-code-in-requires c κs = search needs
-
 returns-3 : tie.Need-returns-3
 unfolding codeOf
 returns-3 c = rw (← c .before .before .is-other-print .ensures, c .before .if1 .left) (c .code-in .ensures)
 
 pub code-of-spec : {M : Type 1} → statement M
-code-of-spec = tie.close (tie.spec is-other-print-requires returns returns-2 code-in-requires returns-3)
+code-of-spec = tie.close (tie.spec (λ c κs. search needs) returns returns-2 (λ c κs. search needs) returns-3)

@@ -7,11 +7,8 @@ use Rattle.strokes.proofs.is_other_print.Tie as tie
 returns : tie.Need-returns
 returns c = rw (ne-eqb _ _ (c .if1 .taken))
 
-is-other-requires : tie.Need-is-other-requires
-is-other-requires c κs = search needs
-
 returns-2 : tie.Need-returns-2
 returns-2 c = rw (eq-eqb _ _ (c .before .if1 .left)) (c .is-other .ensures)
 
 pub is-other-print-spec : {M : Type 1} → statement M
-is-other-print-spec = tie.close (tie.spec returns is-other-requires returns-2)
+is-other-print-spec = tie.close (tie.spec returns (λ c κs. search needs) returns-2)

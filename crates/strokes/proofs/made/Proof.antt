@@ -6,14 +6,8 @@ use borrow.Author.Needs.{needs}
 use Rattle.strokes.proofs.made.Statement.{statement}
 use Rattle.strokes.proofs.made.Tie as tie
 
-empty-requires : tie.Need-empty-requires
-empty-requires c κs = search needs
-
 with-before-requires : tie.Need-with-before-requires
 with-before-requires c κs = omega (arith, none-held _ (c .empty .ensures))
-
-code-of-requires : tie.Need-code-of-requires
-code-of-requires c κs = search needs
 
 with-make-requires : tie.Need-with-make-requires
 with-make-requires c κs =
@@ -26,6 +20,4 @@ returns c =
     filled _ _ _ (make-behind-short _ _ _) (b .before .empty .ensures) (joined _ _ _ _ _ (b .with-before .ensures) make)
 
 pub made-spec : {M : Type 1} → statement M
-made-spec =
-    tie.close
-    (tie.spec empty-requires with-before-requires code-of-requires with-make-requires returns)
+made-spec = tie.close (tie.spec (λ c κs. search needs) with-before-requires (λ c κs. search needs) with-make-requires returns)

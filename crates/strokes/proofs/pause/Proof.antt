@@ -8,9 +8,6 @@ use borrow.Author.Needs.{needs}
 use Rattle.strokes.proofs.pause.Statement.{statement}
 use Rattle.strokes.proofs.pause.Tie as tie
 
-is-other-requires : tie.Need-is-other-requires
-is-other-requires c κs = search needs
-
 returns : tie.Need-returns
 unfolding holding pauseBytes makeOf breakOf prefix codeIn rowOf rows
 returns c = rw (← c .before .before .is-other .ensures, c .before .if1 .taken, c .if2 .taken)
@@ -32,4 +29,4 @@ returns-4 c =
     rw (← c .before .before .is-other .ensures, c .before .if1 .left, two)
 
 pub pause-spec : {M : Type 1} → statement M
-pause-spec = tie.close (tie.spec is-other-requires returns returns-2 returns-3 returns-4)
+pause-spec = tie.close (tie.spec (λ c κs. search needs) returns returns-2 returns-3 returns-4)

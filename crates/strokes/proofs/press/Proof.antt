@@ -6,9 +6,6 @@ use borrow.Author.Needs.{needs}
 use Rattle.strokes.proofs.press.Statement.{statement}
 use Rattle.strokes.proofs.press.Tie as tie
 
-pauses-at-once-requires : tie.Need-pauses-at-once-requires
-pauses-at-once-requires c κs = search needs
-
 pause-requires : tie.Need-pause-requires
 pause-requires c κs =
     let a = c .before .before .args in
@@ -18,13 +15,9 @@ returns : tie.Need-returns
 unfolding bytesOf
 returns c = λ kind. rw (← c .before .before .pauses-at-once .ensures, c .before .if1 .taken) (c .pause .ensures)
 
-made-requires : tie.Need-made-requires
-made-requires c κs = search needs
-
 returns-2 : tie.Need-returns-2
 unfolding bytesOf
 returns-2 c = λ kind. rw (← c .before .before .pauses-at-once .ensures, c .before .if1 .left) (c .made .ensures)
 
 pub press-spec : {M : Type 1} → statement M
-press-spec =
-    tie.close (tie.spec pauses-at-once-requires pause-requires returns made-requires returns-2)
+press-spec = tie.close (tie.spec (λ c κs. search needs) pause-requires returns (λ c κs. search needs) returns-2)

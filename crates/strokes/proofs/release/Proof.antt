@@ -8,18 +8,9 @@ use borrow.Author.Needs.{needs}
 use Rattle.strokes.proofs.release.Statement.{statement}
 use Rattle.strokes.proofs.release.Tie as tie
 
-empty-requires : tie.Need-empty-requires
-empty-requires c κs = search needs
-
-pauses-at-once-requires : tie.Need-pauses-at-once-requires
-pauses-at-once-requires c κs = search needs
-
 returns : tie.Need-returns
 unfolding bytesOf
 returns c = rw (← c .before .pauses-at-once .ensures, c .if1 .taken) (c .before .before .empty .ensures)
-
-sends-release-requires : tie.Need-sends-release-requires
-sends-release-requires c κs = search needs
 
 returns-2 : tie.Need-returns-2
 unfolding bytesOf
@@ -27,9 +18,6 @@ returns-2 c =
     let b = c .before .before in
     rw (← b .before .pauses-at-once .ensures, b .if1 .left, refused (c .before .sends-release .ensures) (c .if2 .taken))
     (b .before .before .empty .ensures)
-
-code-of-requires : tie.Need-code-of-requires
-code-of-requires c κs = search needs
 
 with-break-requires : tie.Need-with-break-requires
 with-break-requires c κs = omega (arith, none-held _ (c .before .before .before .before .before .empty .ensures))
@@ -52,12 +40,12 @@ pub release-spec : {M : Type 1} → statement M
 release-spec =
     tie.close
     (tie.spec
-    empty-requires
-    pauses-at-once-requires
+    (λ c κs. search needs)  -- empty-requires
+    (λ c κs. search needs)  -- pauses-at-once-requires
     returns
-    sends-release-requires
+    (λ c κs. search needs)  -- sends-release-requires
     returns-2
-    code-of-requires
+    (λ c κs. search needs)  -- code-of-requires
     with-break-requires
     with-after-requires
     returns-3)

@@ -5,23 +5,13 @@ use borrow.Author.Needs.{needs}
 use Rattle.strokes.proofs.repeat.Statement.{statement}
 use Rattle.strokes.proofs.repeat.Tie as tie
 
-may-repeat-requires : tie.Need-may-repeat-requires
-may-repeat-requires c κs = search needs
-
-empty-requires : tie.Need-empty-requires
-empty-requires c κs = search needs
-
 returns : tie.Need-returns
 unfolding bytesOf
 returns c = rw (refused (c .before .before .may-repeat .ensures) (c .before .if1 .taken)) (c .empty .ensures)
-
-made-requires : tie.Need-made-requires
-made-requires c κs = search needs
 
 returns-2 : tie.Need-returns-2
 unfolding bytesOf before
 returns-2 c = rw (passed (c .before .before .may-repeat .ensures) (c .before .if1 .left)) (c .made .ensures)
 
 pub repeat-spec : {M : Type 1} → statement M
-repeat-spec =
-    tie.close (tie.spec may-repeat-requires empty-requires returns made-requires returns-2)
+repeat-spec = tie.close (tie.spec (λ c κs. search needs) (λ c κs. search needs) returns (λ c κs. search needs) returns-2)

@@ -4,26 +4,8 @@ use borrow.Author.Needs.{needs}
 use Rattle.strokes.proofs.sequence_in.Statement.{statement}
 use Rattle.strokes.proofs.sequence_in.Tie as tie
 
-form-of-requires : tie.Need-form-of-requires
-form-of-requires c κs = search needs
-
 enum-told : tie.Need-enum-told
 enum-told c = search needs
-
-press-requires : tie.Need-press-requires
-press-requires c κs = search needs
-
-enum-told-2 : tie.Need-enum-told-2
-enum-told-2 c = search needs
-
-release-requires : tie.Need-release-requires
-release-requires c κs = search needs
-
-enum-told-3 : tie.Need-enum-told-3
-enum-told-3 c = search needs
-
-repeat-requires : tie.Need-repeat-requires
-repeat-requires c κs = search needs
 
 returns : tie.Need-returns
 unfolding encode
@@ -41,13 +23,13 @@ pub sequence-in-spec : {M : Type 1} → statement M
 sequence-in-spec =
     tie.close
     (tie.spec
-    form-of-requires
+    (λ c κs. search needs)  -- form-of-requires
     enum-told
-    press-requires
-    enum-told-2
-    release-requires
-    enum-told-3
-    repeat-requires
+    (λ c κs. search needs)  -- press-requires
+    (λ c. search needs)  -- enum-told-2
+    (λ c κs. search needs)  -- release-requires
+    (λ c. search needs)  -- enum-told-3
+    (λ c κs. search needs)  -- repeat-requires
     returns
     returns-2
     returns-3)

@@ -15,15 +15,6 @@ returns c =
     let a = s .args in
     swap-wrong-length (dockWith (a .map .now) (a .closed .now) (a .counts .now) (a .held .now) (a .types .now) (a .rest)) (a .new .now) (s .pre) (c .if1 .taken)
 
-copied-requires : tie.Need-copied-requires
-copied-requires c κs = search needs
-
-slice-aggregate-all-up-to : tie.Need-slice-aggregate-all-up-to
-slice-aggregate-all-up-to c = search needs
-
-all-up-to-requires : tie.Need-all-up-to-requires
-all-up-to-requires c κs = search needs
-
 returns-2 : tie.Need-returns-2
 returns-2 c =
     let copy = c .before .before .before in
@@ -46,9 +37,6 @@ returns-3 c =
     swap-double (dockWith (a .map .now) (a .closed .now) (a .counts .now) (a .held .now) (a .types .now) (a .rest)) (a .new .now) (s .pre) (long .if1 .left)
     _ (copy .copied .ensures) _ (small .before .all-up-to .ensures) (not-false _ (small .if2 .left))
     _ (c .before .has-double .ensures) (c .if3 .taken)
-
-open-handover-requires : tie.Need-open-handover-requires
-open-handover-requires c κs = search needs
 
 go-on-requires : tie.Need-go-on-requires
 go-on-requires c κs =
@@ -83,12 +71,12 @@ swap-in-place-spec =
     tie.close
     (tie.spec
     returns
-    copied-requires
-    slice-aggregate-all-up-to
-    all-up-to-requires
+    (λ c κs. search needs)  -- copied-requires
+    (λ c. search needs)  -- slice-aggregate-all-up-to
+    (λ c κs. search needs)  -- all-up-to-requires
     returns-2
     has-double-requires
     returns-3
-    open-handover-requires
+    (λ c κs. search needs)  -- open-handover-requires
     go-on-requires
     returns-4)

@@ -5,23 +5,11 @@ use Rattle.text.proofs.Newlines.{ends-past, ends-not, ends-newline}
 use Rattle.text.proofs.ends_after.Statement.{statement}
 use Rattle.text.proofs.ends_after.Tie as tie
 
-sub-if1 : tie.Need-sub-if1
-sub-if1 c = search needs
-
 returns : tie.Need-returns
 returns c = let a = c .before .before .args in ends-past (a .text .now) (a .at) (a .n) (omega arith)
 
-add-if2 : tie.Need-add-if2
-add-if2 c = search needs
-
-shared-slice-read-if2 : tie.Need-shared-slice-read-if2
-shared-slice-read-if2 c = search needs
-
 returns-2 : tie.Need-returns-2
 returns-2 c = ends-not _ _ _ (c .if2 .taken)
-
-newline-among-requires : tie.Need-newline-among-requires
-newline-among-requires c κs = search needs
 
 returns-3 : tie.Need-returns-3
 returns-3 c = ends-newline _ _ _ (c .before .if2 .left) _ (c .newline-among .ensures)
@@ -30,10 +18,10 @@ pub ends-after-spec : {M : Type 1} → statement M
 ends-after-spec =
     tie.close
     (tie.spec
-    sub-if1
+    (λ c. search needs)  -- sub-if1
     returns
-    add-if2
-    shared-slice-read-if2
+    (λ c. search needs)  -- add-if2
+    (λ c. search needs)  -- shared-slice-read-if2
     returns-2
-    newline-among-requires
+    (λ c κs. search needs)  -- newline-among-requires
     returns-3)

@@ -9,9 +9,6 @@ use Rattle.text.proofs.kind_of.Tie as tie
 returns : tie.Need-returns
 returns c = sym (kind-empty _ (c .if1 .taken))
 
-all-digits-requires : tie.Need-all-digits-requires
-all-digits-requires c κs = search needs
-
 returns-2 : tie.Need-returns-2
 returns-2 c =
     let d = c .before in
@@ -22,9 +19,6 @@ returns-3 c =
     let d = c .before in
     sym (kind-not-digits _ _ (d .all-digits .ensures) (d .before .before .if1 .left) (c .if3 .left))
 
-all-digits-requires-2 : tie.Need-all-digits-requires-2
-all-digits-requires-2 c κs = search needs
-
 returns-4 : tie.Need-returns-4
 returns-4 c =
     let d = c .before in
@@ -34,9 +28,6 @@ returns-5 : tie.Need-returns-5
 returns-5 c =
     let d = c .before in
     sym (kind-not-digits _ _ (d .all-digits2 .ensures) (d .before .before .before .if1 .left) (c .if5 .left))
-
-all-digits-requires-3 : tie.Need-all-digits-requires-3
-all-digits-requires-3 c κs = search needs
 
 returns-6 : tie.Need-returns-6
 returns-6 c =
@@ -58,13 +49,13 @@ kind-of-spec =
     tie.close
     (tie.spec
     returns
-    all-digits-requires
+    (λ c κs. search needs)  -- all-digits-requires
     returns-2
     returns-3
-    all-digits-requires-2
+    (λ c κs. search needs)  -- all-digits-requires-2
     returns-4
     returns-5
-    all-digits-requires-3
+    (λ c κs. search needs)  -- all-digits-requires-3
     returns-6
     returns-7
     returns-8)

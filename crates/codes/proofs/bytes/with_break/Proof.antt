@@ -9,15 +9,6 @@ use borrow.Author.Needs.{needs}
 use Rattle.codes.proofs.bytes.with_break.Statement.{statement}
 use Rattle.codes.proofs.bytes.with_break.Tie as tie
 
-with-prefix-requires : tie.Need-with-prefix-requires
-with-prefix-requires c κs = search needs
-
-add-with-byte : tie.Need-add-with-byte
-add-with-byte c = search needs
-
-cast-with-byte : tie.Need-cast-with-byte
-cast-with-byte c = search needs
-
 with-byte-requires : tie.Need-with-byte-requires
 with-byte-requires c κs = omega (arith, room _ _ _ 1 (prefix-short _) (c .before .with-prefix .ensures))
 
@@ -28,9 +19,6 @@ returns c =
 
 with-byte-requires-2 : tie.Need-with-byte-requires-2
 with-byte-requires-2 c κs = omega (arith, room _ _ _ 1 (prefix-short _) (c .before .with-prefix .ensures))
-
-cast-with-byte-2 : tie.Need-cast-with-byte-2
-cast-with-byte-2 c = search needs
 
 with-byte-requires-3 : tie.Need-with-byte-requires-3
 with-byte-requires-3 c κs =
@@ -46,12 +34,12 @@ pub with-break-spec : {M : Type 1} → statement M
 with-break-spec =
     tie.close
     (tie.spec
-    with-prefix-requires
-    add-with-byte
-    cast-with-byte
+    (λ c κs. search needs)  -- with-prefix-requires
+    (λ c. search needs)  -- add-with-byte
+    (λ c. search needs)  -- cast-with-byte
     with-byte-requires
     returns
     with-byte-requires-2
-    cast-with-byte-2
+    (λ c. search needs)  -- cast-with-byte-2
     with-byte-requires-3
     returns-2)

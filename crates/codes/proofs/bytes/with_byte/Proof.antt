@@ -5,15 +5,9 @@ use borrow.Author.Needs.{needs}
 use Rattle.codes.proofs.bytes.with_byte.Statement.{statement}
 use Rattle.codes.proofs.bytes.with_byte.Tie as tie
 
-element-write-after : tie.Need-element-write-after
-element-write-after c = search needs
-
-add-after : tie.Need-add-after
-add-after c = search needs
-
 returns : tie.Need-returns
 unfolding adding
 returns c = refl
 
 pub with-byte-spec : {M : Type 1} → statement M
-with-byte-spec = tie.close (tie.spec element-write-after add-after returns)
+with-byte-spec = tie.close (tie.spec (λ c. search needs) (λ c. search needs) returns)

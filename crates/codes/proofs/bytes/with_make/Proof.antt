@@ -7,12 +7,6 @@ use borrow.Author.Needs.{needs}
 use Rattle.codes.proofs.bytes.with_make.Statement.{statement}
 use Rattle.codes.proofs.bytes.with_make.Tie as tie
 
-with-prefix-requires : tie.Need-with-prefix-requires
-with-prefix-requires c κs = search needs
-
-cast-with-byte : tie.Need-cast-with-byte
-cast-with-byte c = search needs
-
 with-byte-requires : tie.Need-with-byte-requires
 with-byte-requires c κs = omega (arith, room _ _ _ 1 (prefix-short _) (c .with-prefix .ensures))
 
@@ -21,5 +15,4 @@ unfolding makeOf
 returns c = joined _ _ _ _ _ (c .before .with-prefix .ensures) (c .with-byte .ensures)
 
 pub with-make-spec : {M : Type 1} → statement M
-with-make-spec =
-    tie.close (tie.spec with-prefix-requires cast-with-byte with-byte-requires returns)
+with-make-spec = tie.close (tie.spec (λ c κs. search needs) (λ c. search needs) with-byte-requires returns)

@@ -10,15 +10,9 @@ returns : tie.Need-returns
 unfolding prefix adding
 returns c = rw (c .if1 .taken)
 
-cast-with-byte : tie.Need-cast-with-byte
-cast-with-byte c = search needs
-
-with-byte-requires : tie.Need-with-byte-requires
-with-byte-requires c κs = search needs
-
 returns-2 : tie.Need-returns-2
 unfolding prefix
 returns-2 c = rw (ne-eqb _ _ (c .before .if1 .left)) (c .with-byte .ensures)
 
 pub with-prefix-spec : {M : Type 1} → statement M
-with-prefix-spec = tie.close (tie.spec returns cast-with-byte with-byte-requires returns-2)
+with-prefix-spec = tie.close (tie.spec returns (λ c. search needs) (λ c κs. search needs) returns-2)

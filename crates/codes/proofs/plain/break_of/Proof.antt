@@ -6,18 +6,6 @@ use borrow.Author.Needs.{needs}
 use Rattle.codes.proofs.plain.break_of.Statement.{statement}
 use Rattle.codes.proofs.plain.break_of.Tie as tie
 
-cast-high : tie.Need-cast-high
-cast-high c = search needs
-
-cast-low : tie.Need-cast-low
-cast-low c = search needs
-
-add-top : tie.Need-add-top
-add-top c = search needs
-
-cast-top : tie.Need-cast-top
-cast-top c = search needs
-
 returns : tie.Need-returns
 unfolding holding breakOf prefix
 returns c = rw (c .before .if1 .taken, c .if2 .taken)
@@ -36,4 +24,13 @@ returns-4 c = rw (ne-eqb _ _ (c .before .if1 .left), ne-eqb _ _ (c .if3 .left))
 
 pub break-of-spec : {M : Type 1} → statement M
 break-of-spec =
-    tie.close (tie.spec cast-high cast-low add-top cast-top returns returns-2 returns-3 returns-4)
+    tie.close
+    (tie.spec
+    (λ c. search needs)  -- cast-high
+    (λ c. search needs)  -- cast-low
+    (λ c. search needs)  -- add-top
+    (λ c. search needs)  -- cast-top
+    returns
+    returns-2
+    returns-3
+    returns-4)

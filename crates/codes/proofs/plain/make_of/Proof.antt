@@ -6,12 +6,6 @@ use borrow.Author.Needs.{needs}
 use Rattle.codes.proofs.plain.make_of.Statement.{statement}
 use Rattle.codes.proofs.plain.make_of.Tie as tie
 
-cast-high : tie.Need-cast-high
-cast-high c = search needs
-
-cast-low : tie.Need-cast-low
-cast-low c = search needs
-
 returns : tie.Need-returns
 unfolding holding makeOf prefix
 returns c = rw (c .if1 .taken)
@@ -21,4 +15,4 @@ unfolding holding makeOf prefix
 returns-2 c = rw (ne-eqb _ _ (c .if1 .left))
 
 pub make-of-spec : {M : Type 1} → statement M
-make-of-spec = tie.close (tie.spec cast-high cast-low returns returns-2)
+make-of-spec = tie.close (tie.spec (λ c. search needs) (λ c. search needs) returns returns-2)

@@ -8,21 +8,6 @@ use Rattle.codes.proofs.plain.plain_sequence.Tie as tie
 enum-told : tie.Need-enum-told
 enum-told c = search needs
 
-code-in-requires : tie.Need-code-in-requires
-code-in-requires c κs = search needs
-
-make-of-requires : tie.Need-make-of-requires
-make-of-requires c κs = search needs
-
-enum-told-2 : tie.Need-enum-told-2
-enum-told-2 c = search needs
-
-sends-release-requires : tie.Need-sends-release-requires
-sends-release-requires c κs = search needs
-
-empty-requires : tie.Need-empty-requires
-empty-requires c κs = search needs
-
 returns : tie.Need-returns
 returns c =
     let b = c .before .before in
@@ -30,33 +15,12 @@ returns c =
     no-release _ _ (told .before .before .pre .1) _ _ _ (c .empty .ensures) (told .enum-told2 .given .1)
     (refused (b .sends-release .ensures) (c .before .if1 .taken))
 
-code-in-requires-2 : tie.Need-code-in-requires-2
-code-in-requires-2 c κs = search needs
-
-break-of-requires : tie.Need-break-of-requires
-break-of-requires c κs = search needs
-
-enum-told-3 : tie.Need-enum-told-3
-enum-told-3 c = search needs
-
-may-repeat-requires : tie.Need-may-repeat-requires
-may-repeat-requires c κs = search needs
-
-empty-requires-2 : tie.Need-empty-requires-2
-empty-requires-2 c κs = search needs
-
 returns-2 : tie.Need-returns-2
 returns-2 c =
     let b = c .before .before in
     let told = b .before in
     no-repeat _ _ (told .before .before .pre .1) _ _ _ (c .empty2 .ensures) (told .enum-told3 .given .1)
     (refused (b .may-repeat .ensures) (c .before .if2 .taken))
-
-code-in-requires-3 : tie.Need-code-in-requires-3
-code-in-requires-3 c κs = search needs
-
-make-of-requires-2 : tie.Need-make-of-requires-2
-make-of-requires-2 c κs = search needs
 
 returns-3 : tie.Need-returns-3
 returns-3 c =
@@ -82,20 +46,20 @@ plain-sequence-spec =
     tie.close
     (tie.spec
     enum-told
-    code-in-requires
-    make-of-requires
-    enum-told-2
-    sends-release-requires
-    empty-requires
+    (λ c κs. search needs)  -- code-in-requires
+    (λ c κs. search needs)  -- make-of-requires
+    (λ c. search needs)  -- enum-told-2
+    (λ c κs. search needs)  -- sends-release-requires
+    (λ c κs. search needs)  -- empty-requires
     returns
-    code-in-requires-2
-    break-of-requires
-    enum-told-3
-    may-repeat-requires
-    empty-requires-2
+    (λ c κs. search needs)  -- code-in-requires-2
+    (λ c κs. search needs)  -- break-of-requires
+    (λ c. search needs)  -- enum-told-3
+    (λ c κs. search needs)  -- may-repeat-requires
+    (λ c κs. search needs)  -- empty-requires-2
     returns-2
-    code-in-requires-3
-    make-of-requires-2
+    (λ c κs. search needs)  -- code-in-requires-3
+    (λ c κs. search needs)  -- make-of-requires-2
     returns-3
     returns-4
     returns-5)

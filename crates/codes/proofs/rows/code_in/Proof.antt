@@ -5,9 +5,6 @@ use borrow.Author.Needs.{needs}
 use Rattle.codes.proofs.rows.code_in.Statement.{statement}
 use Rattle.codes.proofs.rows.code_in.Tie as tie
 
-row-in-requires : tie.Need-row-in-requires
-row-in-requires c κs = search needs
-
 returns : tie.Need-returns
 unfolding codeIn
 returns c = rw (c .if1 .taken, c .before .row-in .ensures)
@@ -21,4 +18,4 @@ unfolding codeIn
 returns-3 c = rw (ne-eqb _ _ (c .before .if1 .left), ne-eqb _ _ (c .if2 .left), c .before .before .row-in .ensures)
 
 pub code-in-spec : {M : Type 1} → statement M
-code-in-spec = tie.close (tie.spec row-in-requires returns returns-2 returns-3)
+code-in-spec = tie.close (tie.spec (λ c κs. search needs) returns returns-2 returns-3)

@@ -6,21 +6,6 @@ use Rattle.commands.proofs.Rows.{reply-other}
 use Rattle.commands.proofs.answers.reply_to.Statement.{statement}
 use Rattle.commands.proofs.answers.reply_to.Tie as tie
 
-one-requires : tie.Need-one-requires
-one-requires c κs = search needs
-
-one-requires-2 : tie.Need-one-requires-2
-one-requires-2 c κs = search needs
-
-three-requires : tie.Need-three-requires
-three-requires c κs = search needs
-
-two-requires : tie.Need-two-requires
-two-requires c κs = search needs
-
-one-requires-3 : tie.Need-one-requires-3
-one-requires-3 c κs = search needs
-
 returns : tie.Need-returns
 unfolding replyTo
 returns c = rw (c .before .match .keys1) (c .one .ensures)
@@ -47,11 +32,11 @@ pub reply-to-spec : {M : Type 1} → statement M
 reply-to-spec =
     tie.close
     (tie.spec
-    one-requires
-    one-requires-2
-    three-requires
-    two-requires
-    one-requires-3
+    (λ c κs. search needs)  -- one-requires
+    (λ c κs. search needs)  -- one-requires-2
+    (λ c κs. search needs)  -- three-requires
+    (λ c κs. search needs)  -- two-requires
+    (λ c κs. search needs)  -- one-requires-3
     returns
     returns-2
     returns-3

@@ -20,12 +20,6 @@ returns-3 : tie.Need-returns-3
 unfolding valued
 returns-3 c = λ map closed counts held. rw (c .if3 .taken)
 
-in-set3-requires : tie.Need-in-set3-requires
-in-set3-requires c κs = search needs
-
-cast-key : tie.Need-cast-key
-cast-key c = search needs
-
 sub-types : tie.Need-sub-types
 sub-types c =
     let l = c .before in
@@ -52,8 +46,8 @@ apply-spec =
     returns
     returns-2
     returns-3
-    in-set3-requires
-    cast-key
+    (λ c κs. search needs)  -- in-set3-requires
+    (λ c. search needs)  -- cast-key
     sub-types
     element-write-types
     returns-4)

@@ -6,9 +6,6 @@ use Rattle.host.proofs.Rows.{right-code, right-none-below, right-none-a
 use Rattle.host.proofs.values.is_right.Statement.{statement}
 use Rattle.host.proofs.values.is_right.Tie as tie
 
-in-set3-requires : tie.Need-in-set3-requires
-in-set3-requires c κs = search needs
-
 returns : tie.Need-returns
 unfolding rightValue
 returns c = rw (c .match .keys1)
@@ -40,5 +37,4 @@ returns-6 c =
     right-none-above (a .command) (a .value) (n .0 .0 .1) (n .0 .1) (n .1) (omega arith) (omega arith)
 
 pub is-right-spec : {M : Type 1} → statement M
-is-right-spec =
-    tie.close (tie.spec in-set3-requires returns returns-2 returns-3 returns-4 returns-5 returns-6)
+is-right-spec = tie.close (tie.spec (λ c κs. search needs) returns returns-2 returns-3 returns-4 returns-5 returns-6)

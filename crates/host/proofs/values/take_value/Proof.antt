@@ -7,12 +7,6 @@ use Rattle.host.proofs.Rows.{value-wrong, value-right}
 use Rattle.host.proofs.values.take_value.Statement.{statement}
 use Rattle.host.proofs.values.take_value.Tie as tie
 
-is-right-requires : tie.Need-is-right-requires
-is-right-requires c κs = search needs
-
-reply-requires : tie.Need-reply-requires
-reply-requires c κs = search needs
-
 returns : tie.Need-returns
 returns c = λ map closed counts held.
     let a = c .before .before .before .args in
@@ -21,9 +15,6 @@ returns c = λ map closed counts held.
 
 apply-requires : tie.Need-apply-requires
 apply-requires c κs = sym (c .before .before .is-right .ensures) ∙ not-false _ (c .before .if1 .left)
-
-reply-requires-2 : tie.Need-reply-requires-2
-reply-requires-2 c κs = search needs
 
 returns-2 : tie.Need-returns-2
 returns-2 c = λ map closed counts held.
@@ -35,4 +26,10 @@ returns-2 c = λ map closed counts held.
 pub take-value-spec : {M : Type 1} → statement M
 take-value-spec =
     tie.close
-    (tie.spec is-right-requires reply-requires returns apply-requires reply-requires-2 returns-2)
+    (tie.spec
+    (λ c κs. search needs)  -- is-right-requires
+    (λ c κs. search needs)  -- reply-requires
+    returns
+    apply-requires
+    (λ c κs. search needs)  -- reply-requires-2
+    returns-2)

@@ -5,15 +5,9 @@ use Rattle.keying.specs.Repeat.{delayOf}
 use Rattle.keying.proofs.repeating.delay_of.Statement.{statement}
 use Rattle.keying.proofs.repeating.delay_of.Tie as tie
 
-add-result : tie.Need-add-result
-add-result c = search needs
-
-mul-result : tie.Need-mul-result
-mul-result c = search needs
-
 returns : tie.Need-returns
 unfolding delayOf
 returns c = refl
 
 pub delay-of-spec : {M : Type 1} → statement M
-delay-of-spec = tie.close (tie.spec add-result mul-result returns)
+delay-of-spec = tie.close (tie.spec (λ c. search needs) (λ c. search needs) returns)

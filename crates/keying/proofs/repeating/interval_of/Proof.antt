@@ -6,15 +6,9 @@ use Rattle.keying.proofs.Good.{interval-small}
 use Rattle.keying.proofs.repeating.interval_of.Statement.{statement}
 use Rattle.keying.proofs.repeating.interval_of.Tie as tie
 
-add-result : tie.Need-add-result
-add-result c = search needs
-
-shl-result : tie.Need-shl-result
-shl-result c = search needs
-
 returns : tie.Need-returns
 unfolding intervalOf
 returns c = omega (arith, interval-small (c .args .rate))
 
 pub interval-of-spec : {M : Type 1} → statement M
-interval-of-spec = tie.close (tie.spec add-result shl-result returns)
+interval-of-spec = tie.close (tie.spec (λ c. search needs) (λ c. search needs) returns)

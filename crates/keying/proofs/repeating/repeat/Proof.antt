@@ -21,16 +21,10 @@ returns-2 c =
     let s = c .before .before .before in
     repeats-later (keysWith (s .args .held .now) (s .args .outgoing)) _ _ _ (c .before .before .if1 .left) (c .if2 .taken)
 
-cast-kind : tie.Need-cast-kind
-cast-kind c = search needs
-
 element-copy-out-kind : tie.Need-element-copy-out-kind
 element-copy-out-kind c =
     let s = c .before .before .before in
     omega (arith, good-keys-repeating (keysWith (s .args .held .now) (s .args .outgoing)) (s .pre .0))
-
-may-repeat-requires : tie.Need-may-repeat-requires
-may-repeat-requires c κs = search needs
 
 returns-3 : tie.Need-returns-3
 returns-3 c =
@@ -39,9 +33,6 @@ returns-3 c =
     repeats-no-more (keysWith (a .held .now) (a .outgoing)) _ _ _ (d .before .before .if1 .left) (d .if2 .left) _ (c .before .may-repeat .ensures)
     (not-true _ (c .if3 .taken))
 
-interval-of-requires : tie.Need-interval-of-requires
-interval-of-requires c κs = search needs
-
 returns-4 : tie.Need-returns-4
 returns-4 c =
     let r = c .before .before in
@@ -49,9 +40,6 @@ returns-4 c =
     let a = d .before .before .before .args in
     repeats-lost (keysWith (a .held .now) (a .outgoing)) _ _ _ (d .before .before .if1 .left) (d .if2 .left) _ (r .before .may-repeat .ensures)
     (not-false _ (r .if3 .left)) _ (c .before .interval-of .ensures) (not-true _ (c .if4 .taken))
-
-bytes-of-requires : tie.Need-bytes-of-requires
-bytes-of-requires c κs = search needs
 
 alone-requires : tie.Need-alone-requires
 unfolding sends
@@ -76,12 +64,12 @@ repeat-spec =
     (tie.spec
     returns
     returns-2
-    cast-kind
+    (λ c. search needs)  -- cast-kind
     element-copy-out-kind
-    may-repeat-requires
+    (λ c κs. search needs)  -- may-repeat-requires
     returns-3
-    interval-of-requires
+    (λ c κs. search needs)  -- interval-of-requires
     returns-4
-    bytes-of-requires
+    (λ c κs. search needs)  -- bytes-of-requires
     alone-requires
     returns-5)

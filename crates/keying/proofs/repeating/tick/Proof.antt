@@ -10,11 +10,5 @@ use Rattle.keying.proofs.repeating.tick.Tie as tie
 returns : tie.Need-returns
 returns c = ap outgoingOf (countdown-stands (keysWith [] (c .before .before .args .outgoing)) (c .if1 .taken))
 
-sub-after : tie.Need-sub-after
-sub-after c = search needs
-
-returns-2 : tie.Need-returns-2
-returns-2 c = search needs
-
 pub tick-spec : {M : Type 1} → statement M
-tick-spec = tie.close (tie.spec returns sub-after returns-2)
+tick-spec = tie.close (tie.spec returns (λ c. search needs) (λ c. search needs))

@@ -6,15 +6,6 @@ use Rattle.reader.proofs.Hearing.{key-heard}
 use Rattle.reader.proofs.set1.plain.Statement.{statement}
 use Rattle.reader.proofs.set1.plain.Tie as tie
 
-key-moves-requires : tie.Need-key-moves-requires
-key-moves-requires c κs = search needs
-
-in-set1-requires : tie.Need-in-set1-requires
-in-set1-requires c κs = search needs
-
-key-moves-requires-2 : tie.Need-key-moves-requires-2
-key-moves-requires-2 c κs = search needs
-
 returns : tie.Need-returns
 unfolding heard codeIn rowOf rows
 returns c = rw (c .before .match .keys1) (c .key-moves .ensures)
@@ -26,5 +17,4 @@ returns-2 c =
     key-heard 1 (a .down) (a .byte) _ _ (search needs) (c .before .in-set1 .ensures) (c .key-moves2 .ensures)
 
 pub plain-spec : {M : Type 1} → statement M
-plain-spec =
-    tie.close (tie.spec key-moves-requires in-set1-requires key-moves-requires-2 returns returns-2)
+plain-spec = tie.close (tie.spec (λ c κs. search needs) (λ c κs. search needs) (λ c κs. search needs) returns returns-2)

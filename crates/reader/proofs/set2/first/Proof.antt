@@ -5,21 +5,6 @@ use Rattle.reader.specs.Reader.{inSet2}
 use Rattle.reader.proofs.set2.first.Statement.{statement}
 use Rattle.reader.proofs.set2.first.Tie as tie
 
-more-requires : tie.Need-more-requires
-more-requires c κs = search needs
-
-more-requires-2 : tie.Need-more-requires-2
-more-requires-2 c κs = search needs
-
-more-requires-3 : tie.Need-more-requires-3
-more-requires-3 c κs = search needs
-
-plain-requires : tie.Need-plain-requires
-plain-requires c κs = search needs
-
-end-requires : tie.Need-end-requires
-end-requires c κs = search needs
-
 returns : tie.Need-returns
 unfolding inSet2
 returns c = rw (c .before .match .keys1) (c .more .ensures)
@@ -42,11 +27,11 @@ pub first-spec : {M : Type 1} → statement M
 first-spec =
     tie.close
     (tie.spec
-    more-requires
-    more-requires-2
-    more-requires-3
-    plain-requires
-    end-requires
+    (λ c κs. search needs)  -- more-requires
+    (λ c κs. search needs)  -- more-requires-2
+    (λ c κs. search needs)  -- more-requires-3
+    (λ c κs. search needs)  -- plain-requires
+    (λ c κs. search needs)  -- end-requires
     returns
     returns-2
     returns-3

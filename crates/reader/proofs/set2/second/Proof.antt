@@ -5,15 +5,6 @@ use Rattle.reader.specs.Reader.{inSet2}
 use Rattle.reader.proofs.set2.second.Statement.{statement}
 use Rattle.reader.proofs.set2.second.Tie as tie
 
-more-requires : tie.Need-more-requires
-more-requires c κs = search needs
-
-extended-requires : tie.Need-extended-requires
-extended-requires c κs = search needs
-
-end-requires : tie.Need-end-requires
-end-requires c κs = search needs
-
 returns : tie.Need-returns
 unfolding inSet2
 returns c = rw (c .before .match .keys1) (c .more .ensures)
@@ -23,4 +14,4 @@ unfolding inSet2
 returns-2 c = rw (ne-eqb _ _ (c .before .before .match .rest .1)) (rw (c .before .extended .ensures) at (c .end .ensures))
 
 pub second-spec : {M : Type 1} → statement M
-second-spec = tie.close (tie.spec more-requires extended-requires end-requires returns returns-2)
+second-spec = tie.close (tie.spec (λ c κs. search needs) (λ c κs. search needs) (λ c κs. search needs) returns returns-2)

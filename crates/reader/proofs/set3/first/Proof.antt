@@ -5,18 +5,6 @@ use Rattle.reader.specs.Reader.{inSet3}
 use Rattle.reader.proofs.set3.first.Statement.{statement}
 use Rattle.reader.proofs.set3.first.Tie as tie
 
-more-requires : tie.Need-more-requires
-more-requires c κs = search needs
-
-in-set3-requires : tie.Need-in-set3-requires
-in-set3-requires c κs = search needs
-
-key-moves-requires : tie.Need-key-moves-requires
-key-moves-requires c κs = search needs
-
-end-requires : tie.Need-end-requires
-end-requires c κs = search needs
-
 returns : tie.Need-returns
 unfolding inSet3
 returns c = rw (c .before .match .keys1) (c .more .ensures)
@@ -30,4 +18,10 @@ returns-2 c =
 pub first-spec : {M : Type 1} → statement M
 first-spec =
     tie.close
-    (tie.spec more-requires in-set3-requires key-moves-requires end-requires returns returns-2)
+    (tie.spec
+    (λ c κs. search needs)  -- more-requires
+    (λ c κs. search needs)  -- in-set3-requires
+    (λ c κs. search needs)  -- key-moves-requires
+    (λ c κs. search needs)  -- end-requires
+    returns
+    returns-2)

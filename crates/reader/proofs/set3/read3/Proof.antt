@@ -6,21 +6,6 @@ use Rattle.reader.proofs.Unreached.{unreached3}
 use Rattle.reader.proofs.set3.read3.Statement.{statement}
 use Rattle.reader.proofs.set3.read3.Tie as tie
 
-first-requires : tie.Need-first-requires
-first-requires c κs = search needs
-
-in-set3-requires : tie.Need-in-set3-requires
-in-set3-requires c κs = search needs
-
-key-moves-requires : tie.Need-key-moves-requires
-key-moves-requires c κs = search needs
-
-end-requires : tie.Need-end-requires
-end-requires c κs = search needs
-
-end-requires-2 : tie.Need-end-requires-2
-end-requires-2 c κs = search needs
-
 returns : tie.Need-returns
 unfolding inSet3
 returns c = rw (c .before .match .keys1) (c .first .ensures)
@@ -38,11 +23,11 @@ pub read3-spec : {M : Type 1} → statement M
 read3-spec =
     tie.close
     (tie.spec
-    first-requires
-    in-set3-requires
-    key-moves-requires
-    end-requires
-    end-requires-2
+    (λ c κs. search needs)  -- first-requires
+    (λ c κs. search needs)  -- in-set3-requires
+    (λ c κs. search needs)  -- key-moves-requires
+    (λ c κs. search needs)  -- end-requires
+    (λ c κs. search needs)  -- end-requires-2
     returns
     returns-2
     returns-3)

@@ -4,17 +4,11 @@ use borrow.Author.Tests.{eq-eqb, ne-eqb}
 use Rattle.reader.proofs.steps.expected.Statement.{statement}
 use Rattle.reader.proofs.steps.expected.Tie as tie
 
-more-requires : tie.Need-more-requires
-more-requires c κs = search needs
-
 returns : tie.Need-returns
 returns c = rw (eq-eqb _ _ (c .before .if1 .taken)) (c .more .ensures)
-
-end-requires : tie.Need-end-requires
-end-requires c κs = search needs
 
 returns-2 : tie.Need-returns-2
 returns-2 c = rw (ne-eqb _ _ (c .before .if1 .left)) (c .end .ensures)
 
 pub expected-spec : {M : Type 1} → statement M
-expected-spec = tie.close (tie.spec more-requires returns end-requires returns-2)
+expected-spec = tie.close (tie.spec (λ c κs. search needs) returns (λ c κs. search needs) returns-2)

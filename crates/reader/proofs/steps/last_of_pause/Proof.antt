@@ -4,17 +4,11 @@ use borrow.Author.Tests.{eq-eqb, ne-eqb}
 use Rattle.reader.proofs.steps.last_of_pause.Statement.{statement}
 use Rattle.reader.proofs.steps.last_of_pause.Tie as tie
 
-end-requires : tie.Need-end-requires
-end-requires c κs = search needs
-
 returns : tie.Need-returns
 returns c = rw (eq-eqb _ _ (c .before .if1 .taken)) (c .end .ensures)
-
-end-requires-2 : tie.Need-end-requires-2
-end-requires-2 c κs = search needs
 
 returns-2 : tie.Need-returns-2
 returns-2 c = rw (ne-eqb _ _ (c .before .if1 .left)) (c .end2 .ensures)
 
 pub last-of-pause-spec : {M : Type 1} → statement M
-last-of-pause-spec = tie.close (tie.spec end-requires returns end-requires-2 returns-2)
+last-of-pause-spec = tie.close (tie.spec (λ c κs. search needs) returns (λ c κs. search needs) returns-2)

@@ -3,11 +3,8 @@ use borrow.Author.Needs.{needs}
 use Rattle.record.proofs.power.fresh_rest.Statement.{statement}
 use Rattle.record.proofs.power.fresh_rest.Tie as tie
 
-empty-requires : tie.Need-empty-requires
-empty-requires c κs = search needs
-
 returns : tie.Need-returns
 returns c = rw (c .empty .ensures)
 
 pub fresh-rest-spec : {M : Type 1} → statement M
-fresh-rest-spec = tie.close (tie.spec empty-requires returns)
+fresh-rest-spec = tie.close (tie.spec (λ c κs. search needs) returns)

@@ -15,32 +15,8 @@ Inv-loop dock₀ position₀ dock position = (position ≤ 104) × (dock ≡ wit
 abbrev μ-loop : tie.MeasureT-loop
 μ-loop dock₀ position₀ dock position = 104 - position
 
-default-types-requires : tie.Need-default-types-requires Inv-loop μ-loop
-default-types-requires c κs = search needs
-
-one-requires : tie.Need-one-requires Inv-loop μ-loop
-one-requires c κs = search needs
-
-fresh-rest-requires : tie.Need-fresh-rest-requires Inv-loop μ-loop
-fresh-rest-requires c κs = search needs
-
 loop-holds : tie.Need-loop-holds Inv-loop μ-loop
 loop-holds c = (omega arith, filled-none _)
-
-add-dock : tie.Need-add-dock Inv-loop μ-loop
-add-dock c = omega arith
-
-cast-dock : tie.Need-cast-dock Inv-loop μ-loop
-cast-dock c = omega arith
-
-element-write-dock : tie.Need-element-write-dock Inv-loop μ-loop
-element-write-dock c = omega arith
-
-add-position : tie.Need-add-position Inv-loop μ-loop
-add-position c = omega arith
-
-loop-less : tie.Need-loop-less Inv-loop μ-loop
-loop-less c = omega arith
 
 loop-again : tie.Need-loop-again Inv-loop μ-loop
 loop-again c = (omega arith, filled-more _ _ _ (c .before .loop .inv .1))
@@ -58,14 +34,14 @@ power-on-spec =
     (tie.spec
     Inv-loop
     μ-loop
-    default-types-requires
-    one-requires
-    fresh-rest-requires
+    (λ c κs. search needs)  -- default-types-requires
+    (λ c κs. search needs)  -- one-requires
+    (λ c κs. search needs)  -- fresh-rest-requires
     loop-holds
-    add-dock
-    cast-dock
-    element-write-dock
-    add-position
-    loop-less
+    (λ c. omega arith)  -- add-dock
+    (λ c. omega arith)  -- cast-dock
+    (λ c. omega arith)  -- element-write-dock
+    (λ c. omega arith)  -- add-position
+    (λ c. omega arith)  -- loop-less
     loop-again
     returns)

@@ -8,44 +8,11 @@ use borrow.Author.Needs.{needs}
 use Rattle.strokes.proofs.wraps.with_before.Statement.{statement}
 use Rattle.strokes.proofs.wraps.with_before.Tie as tie
 
-left-wrap-requires : tie.Need-left-wrap-requires
-left-wrap-requires c κs = search needs
-
-right-wrap-requires : tie.Need-right-wrap-requires
-right-wrap-requires c κs = search needs
-
 enum-told : tie.Need-enum-told
 enum-told c = search needs
 
-enum-told-2 : tie.Need-enum-told-2
-enum-told-2 c = search needs
-
-with-break-requires : tie.Need-with-break-requires
-with-break-requires c κs = search needs
-
-enum-told-3 : tie.Need-enum-told-3
-enum-told-3 c = search needs
-
-with-break-requires-2 : tie.Need-with-break-requires-2
-with-break-requires-2 c κs = search needs
-
-enum-told-4 : tie.Need-enum-told-4
-enum-told-4 c = search needs
-
-with-break-requires-3 : tie.Need-with-break-requires-3
-with-break-requires-3 c κs = search needs
-
 with-break-requires-4 : tie.Need-with-break-requires-4
 with-break-requires-4 c κs = omega (arith, room _ _ _ 3 (break-short _ _) (c .with-break3 .ensures))
-
-enum-told-5 : tie.Need-enum-told-5
-enum-told-5 c = search needs
-
-with-make-requires : tie.Need-with-make-requires
-with-make-requires c κs = search needs
-
-enum-told-6 : tie.Need-enum-told-6
-enum-told-6 c = search needs
 
 returns : tie.Need-returns
 unfolding before adding
@@ -81,19 +48,19 @@ pub with-before-spec : {M : Type 1} → statement M
 with-before-spec =
     tie.close
     (tie.spec
-    left-wrap-requires
-    right-wrap-requires
+    (λ c κs. search needs)  -- left-wrap-requires
+    (λ c κs. search needs)  -- right-wrap-requires
     enum-told
-    enum-told-2
-    with-break-requires
-    enum-told-3
-    with-break-requires-2
-    enum-told-4
-    with-break-requires-3
+    (λ c. search needs)  -- enum-told-2
+    (λ c κs. search needs)  -- with-break-requires
+    (λ c. search needs)  -- enum-told-3
+    (λ c κs. search needs)  -- with-break-requires-2
+    (λ c. search needs)  -- enum-told-4
+    (λ c κs. search needs)  -- with-break-requires-3
     with-break-requires-4
-    enum-told-5
-    with-make-requires
-    enum-told-6
+    (λ c. search needs)  -- enum-told-5
+    (λ c κs. search needs)  -- with-make-requires
+    (λ c. search needs)  -- enum-told-6
     returns
     returns-2
     returns-3

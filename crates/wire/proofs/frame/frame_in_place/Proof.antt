@@ -8,17 +8,8 @@ use Rattle.dock.proofs.Framing.{frame-too-large, frame-broken, frame-byte}
 use Rattle.wire.proofs.frame.frame_in_place.Statement.{statement}
 use Rattle.wire.proofs.frame.frame_in_place.Tie as tie
 
-unpack-requires : tie.Need-unpack-requires
-unpack-requires c κs = search needs
-
 enum-told : tie.Need-enum-told
 enum-told c = search needs
-
-enum-told-2 : tie.Need-enum-told-2
-enum-told-2 c = search needs
-
-reply-requires : tie.Need-reply-requires
-reply-requires c κs = search needs
 
 close-in-place-requires : tie.Need-close-in-place-requires
 close-in-place-requires c κs =
@@ -26,12 +17,6 @@ close-in-place-requires c κs =
     let a = s .args in
     let d = dockWith [] [] [] (a .held .now) (a .types .now) (a .rest) in
     in-range-rest _ (broken-leaves-range d (alone-in-range (a .rest) (s .pre) _ _ _ _) _ (c .reply .ensures [] [] [] (a .held .now) (a .types .now)))
-
-enum-known-unpacked : tie.Need-enum-known-unpacked
-enum-known-unpacked c = search needs
-
-take-requires : tie.Need-take-requires
-take-requires c κs = search needs
 
 close-in-place-requires-2 : tie.Need-close-in-place-requires-2
 close-in-place-requires-2 c κs =
@@ -71,13 +56,13 @@ pub frame-in-place-spec : {M : Type 1} → statement M
 frame-in-place-spec =
     tie.close
     (tie.spec
-    unpack-requires
+    (λ c κs. search needs)  -- unpack-requires
     enum-told
-    enum-told-2
-    reply-requires
+    (λ c. search needs)  -- enum-told-2
+    (λ c κs. search needs)  -- reply-requires
     close-in-place-requires
-    enum-known-unpacked
-    take-requires
+    (λ c. search needs)  -- enum-known-unpacked
+    (λ c κs. search needs)  -- take-requires
     close-in-place-requires-2
     returns
     returns-2

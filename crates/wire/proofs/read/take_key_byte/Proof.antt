@@ -9,16 +9,10 @@ use Rattle.dock.proofs.Reading.{oldest-in-front, key-byte-given}
 use Rattle.wire.proofs.read.take_key_byte.Statement.{statement}
 use Rattle.wire.proofs.read.take_key_byte.Tie as tie
 
-element-copy-out-byte : tie.Need-element-copy-out-byte
-element-copy-out-byte c = search needs
-
 popped-requires : tie.Need-popped-requires
 popped-requires c κs =
     let s = c .before .before .before in
     good-keys-queue (keysWith [] (s .args .rest .outgoing)) (good-rest-outgoing (s .args .rest) (s .pre .0))
-
-remember-requires : tie.Need-remember-requires
-remember-requires c κs = search needs
 
 close-in-place-requires : tie.Need-close-in-place-requires
 close-in-place-requires c κs =
@@ -37,11 +31,4 @@ returns c = λ map closed counts.
     (c .before .remember .ensures map closed counts (a .held .now) (a .types .now))
 
 pub take-key-byte-spec : {M : Type 1} → statement M
-take-key-byte-spec =
-    tie.close
-    (tie.spec
-    element-copy-out-byte
-    popped-requires
-    remember-requires
-    close-in-place-requires
-    returns)
+take-key-byte-spec = tie.close (tie.spec (λ c. search needs) popped-requires (λ c κs. search needs) close-in-place-requires returns)

@@ -8,16 +8,10 @@ use Rattle.dock.proofs.Reading.{oldest-reply-in-front, reply-given}
 use Rattle.wire.proofs.read.take_reply.Statement.{statement}
 use Rattle.wire.proofs.read.take_reply.Tie as tie
 
-element-copy-out-byte : tie.Need-element-copy-out-byte
-element-copy-out-byte c = search needs
-
 popped-requires : tie.Need-popped-requires
 popped-requires c κs =
     let s = c .before .before in
     (good-rest-replies (s .args .rest) (s .pre .0), s .pre .1)
-
-remember-requires : tie.Need-remember-requires
-remember-requires c κs = search needs
 
 close-in-place-requires : tie.Need-close-in-place-requires
 close-in-place-requires c κs =
@@ -36,11 +30,4 @@ returns c = λ map closed counts.
     (c .before .remember .ensures map closed counts (a .held .now) (a .types .now))
 
 pub take-reply-spec : {M : Type 1} → statement M
-take-reply-spec =
-    tie.close
-    (tie.spec
-    element-copy-out-byte
-    popped-requires
-    remember-requires
-    close-in-place-requires
-    returns)
+take-reply-spec = tie.close (tie.spec (λ c. search needs) popped-requires (λ c κs. search needs) close-in-place-requires returns)
