@@ -5,6 +5,7 @@ use mathlib.Core.List.{List, [], _∷_}
 use lib.Dec.{eqb}
 use lib.ListN.{replicate}
 use Rattle.basics.specs.Choice.{pick, either, between}
+use Rattle.hostbytes.specs.Named as host
 use Rattle.keys.specs.Keys.{lastKey}
 use Rattle.queue.specs.Queues.{queueOf}
 use Rattle.replies.specs.Replies.{repliesOf}
@@ -62,23 +63,23 @@ restarted d = freshWith (d .map) (d .rest .replies)
 -- What a command does at once. FB to FD clear, and give the type with their value.
 unfoldable pub obeyed : ℕ → Dock → Dock
 obeyed byte d =
-    pick (eqb byte 0xf0) (readied d)
-    (pick (eqb byte 0xf4) (enabled d)
-    (pick (eqb byte 0xf5) (disabled d)
-    (pick (eqb byte 0xf6) (defaulted d)
-    (pick (between 0xf7 0xfa byte) (typed (byte - 0xf7) d)
-    (pick (between 0xfb 0xfd byte) (cleared d)
-    (pick (eqb byte 0xff) (restarted d)
+    pick (eqb byte host.chooseSet) (readied d)
+    (pick (eqb byte host.enable) (enabled d)
+    (pick (eqb byte host.disable) (disabled d)
+    (pick (eqb byte host.defaults) (defaulted d)
+    (pick (between host.allTypes host.lastAllTypes byte) (typed (byte - host.allTypes) d)
+    (pick (between host.keyType host.lastKeyType byte) (cleared d)
+    (pick (eqb byte host.reset) (restarted d)
     d))))))
 
 -- What a command is answered with.
 unfoldable pub replyTo : ℕ → List ℕ
 replyTo byte =
-    pick (eqb byte 0xee) (0xee ∷ [])
-    (pick (either (eqb byte 0xef) (eqb byte 0xf1)) (0xfe ∷ [])
-    (pick (eqb byte 0xf2) (0xfa ∷ 0xab ∷ 0x83 ∷ [])
-    (pick (eqb byte 0xff) (0xfa ∷ 0xaa ∷ [])
-    (0xfa ∷ []))))
+    pick (eqb byte host.echo) (host.echo ∷ [])
+    (pick (either (eqb byte 0xef) (eqb byte 0xf1)) (host.resend ∷ [])
+    (pick (eqb byte host.identify) (host.acknowledged ∷ host.identity ∷ host.identityEnd ∷ [])
+    (pick (eqb byte host.reset) (host.acknowledged ∷ host.awake ∷ [])
+    (host.acknowledged ∷ []))))
 
 -- A command: it is obeyed and answered, and waits if it takes a value. It ends the wait of another.
 unfoldable pub commanded : ℕ → Dock → Dock

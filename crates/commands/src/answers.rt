@@ -1,4 +1,12 @@
 // The bytes that answer a command.
+use hostbytes::ACKNOWLEDGED;
+use hostbytes::AWAKE;
+use hostbytes::ECHO;
+use hostbytes::IDENTIFY;
+use hostbytes::IDENTITY;
+use hostbytes::IDENTITY_END;
+use hostbytes::RESEND;
+use hostbytes::RESET;
 use replies::Replies;
 use replies::one;
 use replies::three;
@@ -12,10 +20,10 @@ pub fn reply_to(byte: u8) -> Replies
     ensures { λ r. ⌜ r ≡ repliesOf (replyTo byte) ⌝ }
 {
     match byte {
-        0xee => one(0xee),
-        0xef | 0xf1 => one(0xfe),
-        0xf2 => three(0xfa, 0xab, 0x83),
-        0xff => two(0xfa, 0xaa),
-        _ => one(0xfa),
+        ECHO => one(ECHO),
+        0xef | 0xf1 => one(RESEND),
+        IDENTIFY => three(ACKNOWLEDGED, IDENTITY, IDENTITY_END),
+        RESET => two(ACKNOWLEDGED, AWAKE),
+        _ => one(ACKNOWLEDGED),
     }
 }

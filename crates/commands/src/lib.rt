@@ -5,6 +5,15 @@ mod answers; // answers.rt: the bytes that answer a command
 use crate::answers::reply_to;
 use contacts::Columns;
 use contacts::Counts;
+use hostbytes::ALL_TYPES;
+use hostbytes::CHOOSE_SET;
+use hostbytes::DEFAULTS;
+use hostbytes::DISABLE;
+use hostbytes::ENABLE;
+use hostbytes::KEY_TYPE;
+use hostbytes::LAST_ALL_TYPES;
+use hostbytes::LAST_KEY_TYPE;
+use hostbytes::RESET;
 use record::Held;
 use record::Rest;
 use record::Types;
@@ -125,13 +134,13 @@ fn obey(
         (now (closed .exit)) (now (counts .exit)) (now (held .exit)) (now (types .exit)) r ⌝ }
 {
     match byte {
-        0xf0 => ready_for_set(rest),
-        0xf4 => enable(rest),
-        0xf5 => disable(types, rest),
-        0xf6 => set_default(types, rest),
-        0xf7..=0xfa => set_all_types(types, rest, byte - 0xf7),
-        0xfb..=0xfd => clear(rest),
-        0xff => reset(closed, counts, held, types, rest),
+        CHOOSE_SET => ready_for_set(rest),
+        ENABLE => enable(rest),
+        DISABLE => disable(types, rest),
+        DEFAULTS => set_default(types, rest),
+        ALL_TYPES..=LAST_ALL_TYPES => set_all_types(types, rest, byte - ALL_TYPES),
+        KEY_TYPE..=LAST_KEY_TYPE => clear(rest),
+        RESET => reset(closed, counts, held, types, rest),
         _ => rest,
     }
 }

@@ -4,6 +4,7 @@ use mathlib.Core.List.{[], _∷_}
 use lib.Dec.{ltb}
 use Rattle.basics.specs.Choice.{pick}
 use Rattle.basics.specs.Said.{Said, accepted, refused}
+use Rattle.hostbytes.specs.Named as host
 use Rattle.frames.specs.declared.Unpacked.{Unpacked}
 use Rattle.frames.specs.declared.Unpacked.the-variants.{Byte, Broken, TooLarge}
 use Rattle.frames.specs.Frames.{unpackedOf}
@@ -19,7 +20,7 @@ use Rattle.dock.specs.Closing.{closing}
 -- A frame unpacked: a broken one is answered FE.
 unfoldable pub tookFrame : Unpacked → Dock → Answered
 tookFrame (Byte byte) d = answered Accepted (closing (tookByte byte d))
-tookFrame Broken d = answered Accepted (closing (replying (0xfe ∷ []) d))
+tookFrame Broken d = answered Accepted (closing (replying (host.resend ∷ []) d))
 tookFrame TooLarge d = answered FrameNumber d
 
 -- The frame call: the record first, then a number over 2047.

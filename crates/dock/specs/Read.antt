@@ -5,6 +5,7 @@ use lib.Dec.{eqb}
 use lib.ListN.{getD, drop}
 use Rattle.basics.specs.Choice.{pick}
 use Rattle.basics.specs.Said.{Said, accepted, refused}
+use Rattle.hostbytes.specs.Named as host
 use Rattle.queue.specs.declared.Queue.{Queue}
 use Rattle.replies.specs.declared.Replies.{Replies}
 use Rattle.queue.specs.Queues.{waiting, queueOf}
@@ -34,7 +35,7 @@ repliesBehind r = repliesOf (drop 1 (waitingReplies r))
 
 -- A byte was given: what is sent again on FE is the last one that was not FE itself.
 unfoldable pub remembering : Dock → ℕ → Dock
-remembering d byte = withGiven d (pick (eqb byte 0xfe) (d .rest .given) byte)
+remembering d byte = withGiven d (pick (eqb byte host.resend) (d .rest .given) byte)
 
 -- The oldest reply is given.
 unfoldable pub replyTaken : Dock → Taken

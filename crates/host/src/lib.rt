@@ -33,10 +33,10 @@ pub fn take(
         (now (closed .entry)) (now (counts .entry)) (now (held .entry)) (now (types .entry)) rest
         (now (closed .exit)) (now (counts .exit)) (now (held .exit)) (now (types .exit)) r ⌝ }
 {
-    if byte == 0xfe {
+    if byte == hostbytes::RESEND {
         return reply(rest, rest.given);
     }
-    if byte < 0xed {
+    if byte < hostbytes::FIRST_COMMAND {
         return values::take_value(types, rest, byte);
     }
     commands::command(closed, counts, held, types, rest, byte)

@@ -1,5 +1,12 @@
 // The values that commands wait for.
 use crate::reply;
+use hostbytes::ACKNOWLEDGED;
+use hostbytes::CHOOSE_SET;
+use hostbytes::INDICATORS;
+use hostbytes::KEY_TYPE;
+use hostbytes::LAST_KEY_TYPE;
+use hostbytes::RATE;
+use hostbytes::RESEND;
 use record::Rest;
 use record::Types;
 ghost use mathlib.Core.Path.{_≡_};
@@ -12,10 +19,10 @@ fn is_right(command: u8, value: u8) -> bool
     ensures { λ r. ⌜ r ≡ rightValue command value ⌝ }
 {
     match command {
-        0xed => value <= 7,
-        0xf0 => (1 <= value) & (value <= 3),
-        0xf3 => value <= 127,
-        0xfb..=0xfd => lookup::in_set3(value) != 0,
+        INDICATORS => value <= 7,
+        CHOOSE_SET => (1 <= value) & (value <= 3),
+        RATE => value <= 127,
+        KEY_TYPE..=LAST_KEY_TYPE => lookup::in_set3(value) != 0,
         _ => false,
     }
 }
@@ -27,23 +34,23 @@ fn apply(types: &mut Types, rest: Rest, command: u8, value: u8) -> Rest
 {
     let mut mode = rest.mode;
     let mut after = rest;
-    if command == 0xed {
+    if command == INDICATORS {
         mode.indicators = value;
         after.mode = mode;
         return after;
     }
-    if command == 0xf0 {
+    if command == CHOOSE_SET {
         mode.set = value;
         after.mode = mode;
         return after;
     }
-    if command == 0xf3 {
+    if command == RATE {
         mode.rate = value;
         after.mode = mode;
         return after;
     }
     let key = lookup::in_set3(value) as usize;
-    types[key] = command - 0xfb;
+    types[key] = command - KEY_TYPE;
     after
 }
 
@@ -53,9 +60,9 @@ pub fn take_value(types: &mut Types, rest: Rest, byte: u8) -> Rest
 {
     let command = rest.waiting;
     if !is_right(command, byte) {
-        return reply(rest, 0xfe);
+        return reply(rest, RESEND);
     }
     let mut after = apply(types, rest, command, byte);
     after.waiting = 0;
-    reply(after, 0xfa)
+    reply(after, ACKNOWLEDGED)
 }

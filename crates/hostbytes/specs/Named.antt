@@ -1,7 +1,10 @@
 -- The bytes that the host and the dock say to each other, by the names of the rules (docs/RULES.md, section 11). Assumes nothing.
 use Prim.Native.Nat.{ℕ}
 
--- Commands. From the first of them on a byte is a command; below it a byte is a value.
+-- From this one on a byte is a command; below it a byte is a value.
+abbrev pub firstCommand : ℕ
+firstCommand = 0xed
+
 abbrev pub indicators : ℕ
 indicators = 0xed
 

@@ -1,6 +1,8 @@
 // The bytes that the host and the dock say to each other, by the names of the rules (docs/RULES.md, section 11).
 
-// Commands. From the first of them on a byte is a command; below it a byte is a value.
+// From this one on a byte is a command; below it a byte is a value.
+pub const FIRST_COMMAND: u8 = 0xed;
+
 pub const INDICATORS: u8 = 0xed;
 
 pub const ECHO: u8 = 0xee;

@@ -4,6 +4,7 @@ use mathlib.Core.Bool.{Bool}
 use lib.Dec.{leb, eqb}
 use Rattle.basics.specs.Choice.{both, either, between}
 use Rattle.basics.specs.Lists.{allUpTo}
+use Rattle.hostbytes.specs.Named as host
 use Rattle.keys.specs.Keys.{lastKey}
 use Rattle.queue.specs.Queues.{tidy}
 use Rattle.replies.specs.Replies.{tidyReplies}
@@ -28,7 +29,7 @@ goodKeys k = goodOutgoing (outgoingOf k)
 -- A command that takes a value.
 abbrev pub takesValue : ℕ → Bool
 takesValue byte =
-    either (eqb byte 0xed) (either (eqb byte 0xf0) (either (eqb byte 0xf3) (between 0xfb 0xfd byte)))
+    either (eqb byte host.indicators) (either (eqb byte host.chooseSet) (either (eqb byte host.rate) (between host.keyType host.lastKeyType byte)))
 
 -- No command waits for its value, or one that takes a value.
 abbrev pub goodWaiting : ℕ → Bool

@@ -1,5 +1,10 @@
 // Is every part of a record in its range (docs/RECORD.md). The loops keep a flag and run to their ends, so that the compiler takes sixteen entries at a time;
 // the tests are joined by `&` and `|`, so that there is one way through.
+use hostbytes::CHOOSE_SET;
+use hostbytes::INDICATORS;
+use hostbytes::KEY_TYPE;
+use hostbytes::LAST_KEY_TYPE;
+use hostbytes::RATE;
 use record::Dock;
 use record::Mode;
 use record::Outgoing;
@@ -42,7 +47,10 @@ fn is_good_outgoing(outgoing: Outgoing) -> bool
 pub fn takes_value(byte: u8) -> bool
     ensures { λ r. ⌜ r ≡ takesValue byte ⌝ }
 {
-    (byte == 0xed) | (byte == 0xf0) | (byte == 0xf3) | ((0xfb <= byte) & (byte <= 0xfd))
+    (byte == INDICATORS)
+        | (byte == CHOOSE_SET)
+        | (byte == RATE)
+        | ((KEY_TYPE <= byte) & (byte <= LAST_KEY_TYPE))
 }
 
 // What is passed by value is in its range.

@@ -3,6 +3,7 @@ use Prim.Native.Nat.{ℕ, zero, suc}
 use mathlib.Core.Bool.{true, false}
 use mathlib.Core.List.{List, [], _∷_, _++_, map}
 use lib.ListN.{replicate}
+use Rattle.hostbytes.specs.Named as host
 use Rattle.keys.specs.Keys.{rows, noRow, rowType}
 use Rattle.replies.specs.declared.Replies.{Replies}
 use Rattle.queue.specs.Queues.{queueOf}
@@ -32,11 +33,11 @@ defaultRate = 0x2b
 abbrev pub freshRest : Replies → Rest
 freshRest replies =
     restOf (record { queue = queueOf []; repeating = 0; countdown = 0 }) (record { set = 2; rate = defaultRate; indicators = 0 })
-    replies true 0 false 0xfe
+    replies true 0 false host.resend
 
 unfoldable pub freshWith : List ℕ → Replies → Dock
 freshWith map replies = dockWith map (replicate 18 0) (replicate 144 0) (replicate 144 0) defaultTypes (freshRest replies)
 
 -- Power-on: the plain map, and AA waits as a reply.
 unfoldable pub powerOn : Dock
-powerOn = freshWith plainMap (repliesOf (0xaa ∷ []))
+powerOn = freshWith plainMap (repliesOf (host.awake ∷ []))

@@ -49,7 +49,7 @@ pub fn fresh_rest(replies: Replies) -> Rest
         scanning: true,
         waiting: 0,
         handover: false,
-        given: 0xfe,
+        given: hostbytes::RESEND,
     }
 }
 
@@ -59,7 +59,7 @@ pub fn power_on() -> Dock
     ensures { λ r. ⌜ r ≡ powerOn ⌝ }
 {
     let types = default_types();
-    let rest = fresh_rest(replies::one(0xaa));
+    let rest = fresh_rest(replies::one(hostbytes::AWAKE));
     let mut dock = Dock {
         map: [0; 144],
         closed: [0; 18],

@@ -42,7 +42,7 @@ pub fn frame_in_place(
         },
         Unpacked::Broken => AnsweredRest {
             answer: Answer::Accepted,
-            rest: close_in_place(held, types, reply(rest, 0xfe)),
+            rest: close_in_place(held, types, reply(rest, hostbytes::RESEND)),
         },
         Unpacked::Byte(byte) => {
             let after = take(closed, counts, held, types, rest, byte);

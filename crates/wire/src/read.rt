@@ -20,7 +20,7 @@ ghost use Rattle.dock.specs.Read.{remembering, replyTaken, keyByteTaken, readOf
 fn remember(rest: Rest, byte: u8) -> Rest
     ensures { λ r. ⌜ RestAfter (λ (d : Dock). remembering d byte) rest r ⌝ }
 {
-    if byte == 0xfe {
+    if byte == hostbytes::RESEND {
         return rest;
     }
     let mut after = rest;
