@@ -9,10 +9,11 @@ use Rattle.record.specs.declared.Dock.{Dock}
 use Rattle.range.specs.Range.{inRange}
 use Rattle.text.specs.declared.Kind.{Kind}
 use Rattle.text.specs.Lines.{kindOf}
-use Rattle.lines.specs.declared.Printed.{Printed}
-use Rattle.lines.specs.declared.Printed.the-variants.{RefusalLine}
+use Rattle.printing.specs.declared.Printed.{Printed}
+use Rattle.printing.specs.declared.Printed.the-variants.{RefusalLine}
 use Rattle.lines.specs.declared.Stepped.{Stepped}
-use Rattle.lines.specs.Steps.{answerPrints, readPrints, stepped, steppedBy, steppedRead, stepBy, stepOf}
+use Rattle.lines.specs.Steps.{stepped, steppedBy, steppedRead, stepBy, stepOf}
+use Rattle.printing.specs.Printing.{answerPrints, readPrints}
 
 pub answer-steps : (r a : Answered) (p : Printed) → r ≡ a → p ≡ answerPrints (r .answer) → stepped (r .dock) p ≡ steppedBy a
 answer-steps r a p e f = rw (f, e)

@@ -1,14 +1,9 @@
 -- A refused line leaves the record as it was. Assumes nothing.
-use mathlib.Core.Path.{_≡_, refl, sym, ap}
-use mathlib.Core.Bool.{Bool, true, false}
+use mathlib.Core.Path.{_≡_, refl, ap}
+use mathlib.Core.Bool.{true}
 use mathlib.Core.List.{List}
 use Prim.Native.Nat.{ℕ}
-use Rattle.basics.specs.Choice.{pick}
-use Rattle.basics.proofs.Cases.{picked, never}
-use Rattle.dock.specs.declared.Answer.{Answer}
-use Rattle.dock.specs.declared.Given.{Given}
-use Rattle.dock.specs.declared.Given.the-variants.{Nothing, Reply, KeyByte, Refused}
-use Rattle.dock.specs.Answers.{answerSays, isAccepted}
+use Rattle.basics.proofs.Cases.{picked}
 use Rattle.dock.specs.Frame.{frameOf}
 use Rattle.dock.specs.Read.{readOf}
 use Rattle.dock.specs.Scan.{scanOf}
@@ -19,32 +14,11 @@ use Rattle.range.specs.Range.{inRange}
 use Rattle.text.specs.declared.Kind.{Kind}
 use Rattle.text.specs.declared.Kind.the-variants.{Read, Frame, Scan, Map, Malformed}
 use Rattle.digits.specs.Digits.{bytesFrom, frameIn}
+use Rattle.printing.specs.declared.Printed.the-variants.{RefusalLine}
+use Rattle.printing.proofs.Saying.{refuses, not-accepted, read-not-accepted}
 use Rattle.text.specs.Lines.{kindOf}
-use Rattle.lines.specs.declared.Printed.{Printed}
-use Rattle.lines.specs.declared.Printed.the-variants.{Silence, FrameLine, RefusalLine}
 use Rattle.lines.specs.declared.Stepped.{Stepped}
-use Rattle.lines.specs.Steps.{answerPrints, readPrints, stepBy, stepOf}
-
--- What is printed is a refusal.
-abbrev refuses : Printed → Bool
-refuses Silence = false
-refuses (FrameLine frame) = false
-refuses (RefusalLine number) = true
-
--- Then the call was not accepted.
-not-accepted : (answer : Answer) → refuses (answerPrints answer) ≡ true → isAccepted answer ≡ false
-not-accepted answer = go (isAccepted answer)
-  where
-    go : (accepted : Bool) → refuses (pick accepted Silence (RefusalLine (answerSays answer .number))) ≡ true → accepted ≡ false
-    go true e = sym e
-    go false e = refl
-
--- And a read was refused.
-read-not-accepted : (given : Given) → refuses (readPrints given) ≡ true → given ≡ Refused
-read-not-accepted Nothing e = never false e refl
-read-not-accepted (Reply byte) e = never false e refl
-read-not-accepted (KeyByte byte) e = never false e refl
-read-not-accepted Refused e = refl
+use Rattle.lines.specs.Steps.{stepBy, stepOf}
 
 module _ (d : Dock) where
   -- If it is a refusal, the record is the one that came.

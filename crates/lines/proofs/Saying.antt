@@ -4,11 +4,6 @@ use mathlib.Core.List.{List}
 use Prim.Native.Nat.{ℕ}
 use Rattle.basics.specs.Said.{Said}
 use Rattle.basics.proofs.Cases.{two-by-cases}
-use Rattle.dock.specs.declared.Answer.{Answer}
-use Rattle.dock.specs.declared.Answer.the-variants.{Accepted, ScanLength, MapLength, MapEntry, MapDouble, FrameNumber, BadRecord}
-use Rattle.dock.specs.declared.Given.{Given}
-use Rattle.dock.specs.declared.Given.the-variants.{Nothing, Reply, KeyByte, Refused}
-use Rattle.dock.specs.Answers.{answerSays, givenSays}
 use Rattle.dock.specs.Frame.{frameOf}
 use Rattle.dock.specs.Read.{readOf}
 use Rattle.dock.specs.Scan.{scanOf}
@@ -19,26 +14,11 @@ use Rattle.range.specs.Range.{inRange}
 use Rattle.text.specs.declared.Kind.{Kind}
 use Rattle.text.specs.declared.Kind.the-variants.{Read, Frame, Scan, Map, Malformed}
 use Rattle.digits.specs.Digits.{bytesFrom, frameIn}
+use Rattle.printing.proofs.Saying.{answer-printed, read-printed}
 use Rattle.text.specs.Lines.{kindOf}
 use Rattle.lines.specs.declared.Stepped.{Stepped}
-use Rattle.lines.specs.Steps.{answerPrints, readPrints, stepBy, stepOf, printedSays, steppedSays, asFrame, lineSaid, stepSaid}
-
--- What is printed for an answer says what the answer says,
-answer-printed : (answer : Answer) → printedSays (answerPrints answer) ≡ answerSays answer
-answer-printed Accepted = refl
-answer-printed ScanLength = refl
-answer-printed MapLength = refl
-answer-printed MapEntry = refl
-answer-printed MapDouble = refl
-answer-printed FrameNumber = refl
-answer-printed BadRecord = refl
-
--- and what is printed for a read says it as a frame.
-read-printed : (given : Given) → printedSays (readPrints given) ≡ asFrame (givenSays given)
-read-printed Nothing = refl
-read-printed (Reply byte) = refl
-read-printed (KeyByte byte) = refl
-read-printed Refused = refl
+use Rattle.lines.specs.Steps.{stepBy, stepOf, steppedSays, lineSaid, stepSaid}
+use Rattle.printing.specs.Printing.{asFrame}
 
 module _ (d : Dock) (line : List ℕ) where
   line-says : (kind : Kind) → steppedSays (stepBy kind d line) ≡ lineSaid kind d line

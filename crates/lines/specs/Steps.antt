@@ -1,21 +1,14 @@
 -- What a line of the bench does and prints (docs/RULES.md, section 12). Assumes nothing.
 use Prim.Native.Nat.{ℕ}
-use mathlib.Core.List.{List, [], _∷_}
-use lib.Dec.{eqb}
-use lib.ListN.{getD, length}
+use mathlib.Core.List.{List}
 use Rattle.basics.specs.Choice.{pick}
-use Rattle.basics.specs.Said.{Said, accepted, refused}
-use Rattle.dock.specs.declared.Answer.{Answer}
+use Rattle.basics.specs.Said.{Said, refused}
 use Rattle.dock.specs.declared.Answered.{Answered}
-use Rattle.dock.specs.declared.Given.{Given}
-use Rattle.dock.specs.declared.Given.the-variants.{Nothing, Reply, KeyByte, Refused}
 use Rattle.dock.specs.declared.Taken.{Taken}
-use Rattle.dock.specs.Answers.{answerSays, isAccepted, givenSays}
 use Rattle.dock.specs.Frame.{frameOf, frameSaid}
 use Rattle.dock.specs.Read.{readOf, readSaid}
 use Rattle.dock.specs.Scan.{scanOf, scanSaid}
 use Rattle.dock.specs.Swap.{swapOf, swapSaid}
-use Rattle.frames.specs.Frames.{packedOf}
 use Rattle.record.specs.declared.Dock.{Dock}
 use Rattle.record.specs.Parts.{dockWith}
 use Rattle.range.specs.Range.{inRange}
@@ -23,21 +16,11 @@ use Rattle.text.specs.declared.Kind.{Kind}
 use Rattle.text.specs.declared.Kind.the-variants.{Read, Frame, Scan, Map, Malformed}
 use Rattle.digits.specs.Digits.{bytesFrom, frameIn}
 use Rattle.text.specs.Lines.{kindOf}
-use Rattle.lines.specs.declared.Printed.{Printed}
-use Rattle.lines.specs.declared.Printed.the-variants.{Silence, FrameLine, RefusalLine}
+use Rattle.printing.specs.declared.Printed.{Printed}
+use Rattle.printing.specs.declared.Printed.the-variants.{RefusalLine}
+use Rattle.printing.specs.Printing.{answerPrints, readPrints, printedSays, asFrame}
 use Rattle.lines.specs.declared.Stepped.{Stepped}
 use Rattle.lines.specs.declared.SteppedRest.{SteppedRest}
-
--- An accepted line prints nothing; a refused one prints its number.
-abbrev pub answerPrints : Answer → Printed
-answerPrints answer = pick (isAccepted answer) Silence (RefusalLine (answerSays answer .number))
-
--- A read prints the frame of the byte given, or 000.
-abbrev pub readPrints : Given → Printed
-readPrints Nothing = FrameLine 0
-readPrints (Reply byte) = FrameLine (packedOf byte)
-readPrints (KeyByte byte) = FrameLine (packedOf byte)
-readPrints Refused = RefusalLine (givenSays Refused .number)
 
 -- The record and what is printed.
 abbrev pub stepped : Dock → Printed → Stepped
@@ -67,19 +50,9 @@ stepBy Malformed d line = stepped d (RefusalLine 8)
 unfoldable pub stepOf : Dock → List ℕ → Stepped
 stepOf d line = pick (inRange d) (stepBy (kindOf line) d line) (stepped d (RefusalLine 9))
 
--- What each line printed says (docs/RULES.md, section 9): the frame that a read gave, or the number of a refusal.
-abbrev pub printedSays : Printed → Said
-printedSays Silence = accepted []
-printedSays (FrameLine frame) = accepted (frame ∷ [])
-printedSays (RefusalLine number) = refused number
-
+-- The same of a line beside the record.
 abbrev pub steppedSays : Stepped → Said
 steppedSays r = printedSays (r .printed)
-
--- What a read says, as a frame: that of the byte given, or 0.
-abbrev pub asFrame : Said → Said
-asFrame said =
-    pick (eqb (said .number) 0) (accepted (pick (eqb (length (said .values)) 0) 0 (packedOf (getD (said .values) 1 0)) ∷ [])) said
 
 -- What is said of a line of a kind, by the table,
 abbrev pub lineSaid : Kind → Dock → List ℕ → Said

@@ -1,8 +1,9 @@
 // The bench's lines (docs/RULES.md, section 12): what a line asks of the dock, and what is printed for it.
 use contacts::Columns;
 use contacts::Counts;
-use dock::Answer;
-use dock::Given;
+use printing::Printed;
+use printing::answer_prints;
+use printing::read_prints;
 use record::Dock;
 use record::Held;
 use record::Map;
@@ -22,17 +23,7 @@ ghost use Rattle.dock.specs.Read.{readOf};
 ghost use Rattle.digits.specs.Digits.{allDigits, bytesFrom, frameIn};
 ghost use Rattle.record.specs.Parts.{dockWith};
 ghost use Rattle.range.specs.Range.{goodRest, inRange};
-ghost use Rattle.lines.specs.Steps.{answerPrints, readPrints, steppedBy, steppedRead, steppedWith, stepOf, steppedSays, stepSaid};
-
-// What a line prints.
-pub enum Printed {
-    // Nothing.
-    Silence,
-    // The frame that a read gave; 0 if it gave none.
-    FrameLine(u16),
-    // ! and the number of a refusal.
-    RefusalLine(u8),
-}
+ghost use Rattle.lines.specs.Steps.{steppedBy, steppedRead, steppedWith, stepOf, steppedSays, stepSaid};
 
 // The record after a line, and what the line prints.
 pub struct Stepped {
@@ -44,33 +35,6 @@ pub struct Stepped {
 pub struct SteppedRest {
     pub rest: Rest,
     pub printed: Printed,
-}
-
-// What an answer prints.
-fn answer_prints(answer: Answer) -> Printed
-    ensures { λ r. ⌜ r ≡ answerPrints answer ⌝ }
-{
-    match answer {
-        Answer::Accepted => Printed::Silence,
-        Answer::ScanLength => Printed::RefusalLine(1),
-        Answer::MapLength => Printed::RefusalLine(2),
-        Answer::MapEntry => Printed::RefusalLine(3),
-        Answer::MapDouble => Printed::RefusalLine(4),
-        Answer::FrameNumber => Printed::RefusalLine(5),
-        Answer::BadRecord => Printed::RefusalLine(9),
-    }
-}
-
-// What a read prints.
-fn read_prints(given: Given) -> Printed
-    ensures { λ r. ⌜ r ≡ readPrints given ⌝ }
-{
-    match given {
-        Given::Nothing => Printed::FrameLine(0),
-        Given::Reply(byte) => Printed::FrameLine(frames::pack(byte)),
-        Given::KeyByte(byte) => Printed::FrameLine(frames::pack(byte)),
-        Given::Refused => Printed::RefusalLine(9),
-    }
 }
 
 // 36 digits: a scan.

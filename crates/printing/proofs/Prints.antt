@@ -5,8 +5,8 @@ use Prim.Native.Nat.{ℕ, _+_, _/_, _%_, _≤_}
 use native.Mathlib.Omega.{arith}
 use lib.ListN.{length, set}
 use Rattle.digits.specs.Digits.{digitOf}
-use Rattle.lines.specs.declared.Printed.{Printed}
-use Rattle.lines.specs.declared.Printed.the-variants.{Silence, FrameLine, RefusalLine}
+use Rattle.printing.specs.declared.Printed.{Printed}
+use Rattle.printing.specs.declared.Printed.the-variants.{Silence, FrameLine, RefusalLine}
 use Rattle.printing.specs.Printing.{characters, writtenAt}
 
 -- At most four characters are printed.

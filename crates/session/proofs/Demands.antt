@@ -4,7 +4,7 @@ use mathlib.Core.List.{List, [], _∷_, _++_}
 use Prim.Native.Nat.{ℕ, _≤_}
 use Rattle.keys.specs.Keys.{lastKey}
 use Rattle.keys.specs.Named.{pauseKey}
-use Rattle.lines.specs.declared.Printed.{Printed}
+use Rattle.printing.specs.declared.Printed.{Printed}
 use Rattle.lines.specs.Steps.{stepOf}
 use Rattle.record.specs.declared.Dock.{Dock}
 use Rattle.record.specs.Power.{powerOn}

@@ -2,7 +2,7 @@
 use Prim.Native.Nat.{ℕ}
 use mathlib.Core.List.{List, [], _∷_, _++_}
 use Rattle.digits.specs.Digits.{bytesFrom, frameIn}
-use Rattle.lines.specs.declared.Printed.{Printed}
+use Rattle.printing.specs.declared.Printed.{Printed}
 use Rattle.lines.specs.Steps.{stepOf}
 use Rattle.record.specs.declared.Dock.{Dock}
 use Rattle.dock.specs.Calls.{Call}

@@ -1,7 +1,7 @@
--- `lines::answer_prints` meets its contract: each answer's number is printed, and 0 is not. Assumes nothing.
+-- `printing::answer_prints` meets its contract: each answer's number is printed, and 0 is not. Assumes nothing.
 use borrow.Author.Needs.{needs}
-use Rattle.lines.proofs.answer_prints.Statement.{statement}
-use Rattle.lines.proofs.answer_prints.Tie as tie
+use Rattle.printing.proofs.answer_prints.Statement.{statement}
+use Rattle.printing.proofs.answer_prints.Tie as tie
 
 enum-told : tie.Need-enum-told
 enum-told c = search needs

@@ -1,9 +1,9 @@
--- `lines::read_prints` meets its contract: a byte given is printed as its frame. Assumes nothing.
+-- `printing::read_prints` meets its contract: a byte given is printed as its frame. Assumes nothing.
 use mathlib.Core.Path.{ap}
-use Rattle.lines.specs.declared.Printed.the-variants.{FrameLine}
+use Rattle.printing.specs.declared.Printed.the-variants.{FrameLine}
 use borrow.Author.Needs.{needs}
-use Rattle.lines.proofs.read_prints.Statement.{statement}
-use Rattle.lines.proofs.read_prints.Tie as tie
+use Rattle.printing.proofs.read_prints.Statement.{statement}
+use Rattle.printing.proofs.read_prints.Tie as tie
 
 returns-2 : tie.Need-returns-2
 returns-2 c = rw (c .before .before .given .given .1) (ap FrameLine (c .pack .ensures))
