@@ -14,7 +14,7 @@ ghost use mathlib.Core.Path.{_≡_};
 ghost use mathlib.Core.Bool.{true};
 ghost use Prim.Native.Nat.{_≤_};
 ghost use lib.ListN.{length};
-ghost use Rattle.record.specs.Parts.{dockWith};
+ghost use Rattle.record.specs.InPlace.{dockIn};
 ghost use Rattle.range.specs.Range.{inRange};
 
 // What is left of a text after its whole lines were run: the dock, the characters used, and the characters to be printed.
@@ -50,10 +50,10 @@ fn run_in_place(
     out: &mut [u8],
 ) -> RanRest
     requires { ⌜ (length (now text) ≤ 16384) × (length (now out) ≡ 65536)
-        × (inRange (dockWith (now map) (now closed) (now counts) (now held) (now types) before) ≡ true) × (length (now closed) ≡ 18)
+        × (inRange (dockIn map closed counts held types before) ≡ true) × (length (now closed) ≡ 18)
         × (length (now counts) ≡ 144) ⌝ }
     ensures { λ r. ⌜ (r .used ≤ length (now (text .entry))) × (r .written ≤ 65536)
-        × (inRange (dockWith (now (map .exit)) (now (closed .exit)) (now (counts .exit)) (now (held .exit)) (now (types .exit)) (r .rest)) ≡ true) ⌝ }
+        × (inRange (dockIn (map .exit) (closed .exit) (counts .exit) (held .exit) (types .exit) (r .rest)) ≡ true) ⌝ }
 {
     let mut rest = before;
     let mut at: usize = 0;

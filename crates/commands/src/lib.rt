@@ -67,7 +67,7 @@ fn enable(rest: Rest) -> Rest
 
 // F6: nothing queued, nothing repeating, set 2, default rate and types.
 fn set_default(types: &mut Types, rest: Rest) -> Rest
-    ensures { λ r. ⌜ TypesAfter defaulted (now (types .entry)) rest (now (types .exit)) r ⌝ }
+    ensures { λ r. ⌜ TypesAfter defaulted types rest r ⌝ }
 {
     let mut mode = rest.mode;
     mode.set = 2;
@@ -81,7 +81,7 @@ fn set_default(types: &mut Types, rest: Rest) -> Rest
 
 // F5: the same, and scanning off.
 fn disable(types: &mut Types, rest: Rest) -> Rest
-    ensures { λ r. ⌜ TypesAfter disabled (now (types .entry)) rest (now (types .exit)) r ⌝ }
+    ensures { λ r. ⌜ TypesAfter disabled types rest r ⌝ }
 {
     let mut off = set_default(types, rest);
     off.scanning = false;
@@ -90,7 +90,7 @@ fn disable(types: &mut Types, rest: Rest) -> Rest
 
 // F7 to FA: nothing queued, and every key of one type.
 fn set_all_types(types: &mut Types, rest: Rest, kind: u8) -> Rest
-    ensures { λ r. ⌜ TypesAfter (typed kind) (now (types .entry)) rest (now (types .exit)) r ⌝ }
+    ensures { λ r. ⌜ TypesAfter (typed kind) types rest r ⌝ }
 {
     let all = [kind; keys::PLACES];
     *types = all;
@@ -105,9 +105,7 @@ fn reset(
     types: &mut Types,
     rest: Rest,
 ) -> Rest
-    ensures { λ r. ⌜ ArraysAfter restarted
-        (now (closed .entry)) (now (counts .entry)) (now (held .entry)) (now (types .entry)) rest
-        (now (closed .exit)) (now (counts .exit)) (now (held .exit)) (now (types .exit)) r ⌝ }
+    ensures { λ r. ⌜ ArraysAfter restarted closed counts held types rest r ⌝ }
 {
     let no_columns = [0; 18];
     let zeros = [0; 144];
@@ -129,9 +127,7 @@ fn obey(
     rest: Rest,
     byte: u8,
 ) -> Rest
-    ensures { λ r. ⌜ ArraysAfter (obeyed byte)
-        (now (closed .entry)) (now (counts .entry)) (now (held .entry)) (now (types .entry)) rest
-        (now (closed .exit)) (now (counts .exit)) (now (held .exit)) (now (types .exit)) r ⌝ }
+    ensures { λ r. ⌜ ArraysAfter (obeyed byte) closed counts held types rest r ⌝ }
 {
     match byte {
         CHOOSE_SET => ready_for_set(rest),
@@ -154,9 +150,7 @@ pub fn command(
     rest: Rest,
     byte: u8,
 ) -> Rest
-    ensures { λ r. ⌜ ArraysAfter (commanded byte)
-        (now (closed .entry)) (now (counts .entry)) (now (held .entry)) (now (types .entry)) rest
-        (now (closed .exit)) (now (counts .exit)) (now (held .exit)) (now (types .exit)) r ⌝ }
+    ensures { λ r. ⌜ ArraysAfter (commanded byte) closed counts held types rest r ⌝ }
 {
     let mut after = obey(closed, counts, held, types, rest, byte);
     after.replies = reply_to(byte);

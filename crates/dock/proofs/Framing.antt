@@ -20,20 +20,24 @@ module _ (d : Dock) (number : ℕ) where
   unfolding frameOf
   frame-bad-record f = rw f
 
-  module _ (h : inRange d ≡ true) (unpacked : Unpacked) (u : unpacked ≡ unpackedOf number) where
-    by-case : (which : Unpacked) → unpacked ≡ which → tookFrame which d ≡ frameOf d number
-    unfolding frameOf
-    by-case which i = rw h (ap (λ (x : Unpacked). tookFrame x d) (sym i ∙ u))
+  -- In its range the record takes the frame.
+  pub frame-taken : inRange d ≡ true → tookFrame (unpackedOf number) d ≡ frameOf d number
+  unfolding frameOf
+  frame-taken h = rw h
 
-    pub frame-too-large : unpacked ≡ TooLarge → answered FrameNumber d ≡ frameOf d number
+  module _ (unpacked : Unpacked) (u : unpacked ≡ unpackedOf number) where
+    by-case : (which : Unpacked) → unpacked ≡ which → tookFrame which d ≡ tookFrame (unpackedOf number) d
+    by-case which i = ap (λ (x : Unpacked). tookFrame x d) (sym i ∙ u)
+
+    pub frame-too-large : unpacked ≡ TooLarge → answered FrameNumber d ≡ tookFrame (unpackedOf number) d
     unfolding tookFrame
     frame-too-large i = by-case TooLarge i
 
     module _ (next r : Dock) (c : r ≡ closing next) where
-      pub frame-broken : unpacked ≡ Broken → next ≡ replying (0xfe ∷ []) d → answered Accepted r ≡ frameOf d number
+      pub frame-broken : unpacked ≡ Broken → next ≡ replying (0xfe ∷ []) d → answered Accepted r ≡ tookFrame (unpackedOf number) d
       unfolding tookFrame
       frame-broken i n = rw (c, n) (by-case Broken i)
 
-      pub frame-byte : (byte : ℕ) → unpacked ≡ Byte byte → next ≡ tookByte byte d → answered Accepted r ≡ frameOf d number
+      pub frame-byte : (byte : ℕ) → unpacked ≡ Byte byte → next ≡ tookByte byte d → answered Accepted r ≡ tookFrame (unpackedOf number) d
       unfolding tookFrame
       frame-byte byte i n = rw (c, n) (by-case (Byte byte) i)

@@ -46,22 +46,26 @@ module _ (d : Dock) (byte : ℕ) (kept r : Dock) (i : r ≡ closing kept) where
   unfolding keyByteTaken
   key-byte-given rest b e k = rw (i, k, e, b)
 
--- The whole call.
+-- The whole call: in its range the record is read,
 module _ (d : Dock) where
   pub read-bad-record : inRange d ≡ false → taken Refused d ≡ readOf d
   unfolding readOf
   read-bad-record f = rw f
 
-  module _ (h : inRange d ≡ true) where
-    pub read-reply : (d .rest .replies .length ≡ 0 → ⊥) → (r : Taken) → r ≡ replyTaken d → r ≡ readOf d
-    unfolding readOf read
-    read-reply n r i = simp (h, ne-eqb (d .rest .replies .length) 0 n, i)
+  pub read-done : inRange d ≡ true → read d ≡ readOf d
+  unfolding readOf
+  read-done h = rw h
 
-    module _ (n : d .rest .replies .length ≡ 0) where
-      pub read-key-byte : (d .rest .outgoing .queue .length ≡ 0 → ⊥) → (r : Taken) → r ≡ keyByteTaken d → r ≡ readOf d
-      unfolding readOf read
-      read-key-byte m r i = simp (h, eq-eqb (d .rest .replies .length) 0 n, ne-eqb (d .rest .outgoing .queue .length) 0 m, i)
+  -- by what waits.
+  pub read-reply : (d .rest .replies .length ≡ 0 → ⊥) → (r : Taken) → r ≡ replyTaken d → r ≡ read d
+  unfolding read
+  read-reply n r i = simp (ne-eqb (d .rest .replies .length) 0 n, i)
 
-      pub read-nothing : d .rest .outgoing .queue .length ≡ 0 → (r : Dock) → r ≡ closing d → taken Nothing r ≡ readOf d
-      unfolding readOf read
-      read-nothing m r i = simp (h, eq-eqb (d .rest .replies .length) 0 n, eq-eqb (d .rest .outgoing .queue .length) 0 m, i)
+  module _ (n : d .rest .replies .length ≡ 0) where
+    pub read-key-byte : (d .rest .outgoing .queue .length ≡ 0 → ⊥) → (r : Taken) → r ≡ keyByteTaken d → r ≡ read d
+    unfolding read
+    read-key-byte m r i = simp (eq-eqb (d .rest .replies .length) 0 n, ne-eqb (d .rest .outgoing .queue .length) 0 m, i)
+
+    pub read-nothing : d .rest .outgoing .queue .length ≡ 0 → (r : Dock) → r ≡ closing d → taken Nothing r ≡ read d
+    unfolding read
+    read-nothing m r i = simp (eq-eqb (d .rest .replies .length) 0 n, eq-eqb (d .rest .outgoing .queue .length) 0 m, i)

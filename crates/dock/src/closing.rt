@@ -11,7 +11,7 @@ ghost use Rattle.dock.specs.Closing.{closing};
 // An open handover goes on: the flags of the held keys are lent. It is apart, so that calls do not pay for it while none is open.
 pub fn go_on(held: &mut Held, types: &Types, rest: Rest) -> Rest
     requires { ⌜ (goodRest rest ≡ true) × (rest .handover ≡ true) ⌝ }
-    ensures { λ r. ⌜ HeldAfter closing (now (held .entry)) (now (types .entry)) rest (now (held .exit)) r ⌝ }
+    ensures { λ r. ⌜ HeldAfter closing held types rest r ⌝ }
 {
     let outgoing = rest.outgoing;
     let mode = rest.mode;
@@ -26,7 +26,7 @@ pub fn go_on(held: &mut Held, types: &Types, rest: Rest) -> Rest
 // So an accepted call ends.
 pub fn close_in_place(held: &mut Held, types: &Types, rest: Rest) -> Rest
     requires { ⌜ goodRest rest ≡ true ⌝ }
-    ensures { λ r. ⌜ HeldAfter closing (now (held .entry)) (now (types .entry)) rest (now (held .exit)) r ⌝ }
+    ensures { λ r. ⌜ HeldAfter closing held types rest r ⌝ }
 {
     if !rest.handover {
         return rest;

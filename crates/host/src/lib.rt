@@ -29,9 +29,7 @@ pub fn take(
     rest: Rest,
     byte: u8,
 ) -> Rest
-    ensures { λ r. ⌜ ArraysAfter (tookByte byte)
-        (now (closed .entry)) (now (counts .entry)) (now (held .entry)) (now (types .entry)) rest
-        (now (closed .exit)) (now (counts .exit)) (now (held .exit)) (now (types .exit)) r ⌝ }
+    ensures { λ r. ⌜ ArraysAfter (tookByte byte) closed counts held types rest r ⌝ }
 {
     if byte == hostbytes::RESEND {
         return reply(rest, rest.given);

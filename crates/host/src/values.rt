@@ -30,7 +30,7 @@ fn is_right(command: u8, value: u8) -> bool
 // What such a value does. The types are lent.
 fn apply(types: &mut Types, rest: Rest, command: u8, value: u8) -> Rest
     requires { ⌜ rightValue command value ≡ true ⌝ }
-    ensures { λ r. ⌜ TypesAfter (valued command value) (now (types .entry)) rest (now (types .exit)) r ⌝ }
+    ensures { λ r. ⌜ TypesAfter (valued command value) types rest r ⌝ }
 {
     let mut mode = rest.mode;
     let mut after = rest;
@@ -56,7 +56,7 @@ fn apply(types: &mut Types, rest: Rest, command: u8, value: u8) -> Rest
 
 // A byte below ED: the value of the command that waits, if it is right for it.
 pub fn take_value(types: &mut Types, rest: Rest, byte: u8) -> Rest
-    ensures { λ r. ⌜ TypesAfter (tookValue byte) (now (types .entry)) rest (now (types .exit)) r ⌝ }
+    ensures { λ r. ⌜ TypesAfter (tookValue byte) types rest r ⌝ }
 {
     let command = rest.waiting;
     if !is_right(command, byte) {

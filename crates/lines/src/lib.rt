@@ -12,18 +12,18 @@ use record::Types;
 use text::Kind;
 ghost use mathlib.Core.Path.{_≡_};
 ghost use mathlib.Core.Bool.{true};
-ghost use mathlib.Core.List.{List};
-ghost use Prim.Native.Nat.{ℕ};
 ghost use lib.ListN.{length};
 ghost use Rattle.basics.specs.Said.{Answers};
 ghost use Rattle.dock.specs.Scan.{scanOf};
 ghost use Rattle.dock.specs.Swap.{swapOf};
-ghost use Rattle.dock.specs.Frame.{frameOf};
-ghost use Rattle.dock.specs.Read.{readOf};
+ghost use Rattle.dock.specs.Frame.{tookFrame};
+ghost use Rattle.dock.specs.Read.{read};
 ghost use Rattle.digits.specs.Digits.{allDigits, bytesFrom, frameIn};
-ghost use Rattle.record.specs.Parts.{dockWith};
+ghost use Rattle.frames.specs.Frames.{unpackedOf};
+ghost use Rattle.record.specs.declared.Dock.{Dock};
+ghost use Rattle.record.specs.InPlace.{dockIn, AllGive, ArraysGive, HeldGive};
 ghost use Rattle.range.specs.Range.{goodRest, inRange};
-ghost use Rattle.lines.specs.Steps.{steppedBy, steppedRead, steppedWith, stepOf, steppedSays, stepSaid};
+ghost use Rattle.lines.specs.Steps.{stepped, steppedBy, steppedRead, stepOf, steppedSays, stepSaid};
 
 // The record after a line, and what the line prints.
 pub struct Stepped {
@@ -47,10 +47,8 @@ fn scan_line(
     rest: Rest,
     line: &[u8],
 ) -> SteppedRest
-    requires { ⌜ (inRange (dockWith (now map) (now closed) (now counts) (now held) (now types) rest) ≡ true) × (length (now closed) ≡ 18)
-        × (length (now counts) ≡ 144) × (length (now line) ≡ 36) × (allDigits (now line) ≡ true) ⌝ }
-    ensures { λ r. ⌜ steppedWith (now (map .entry)) (now (closed .exit)) (now (counts .exit)) (now (held .exit)) (now (types .entry)) r
-        ≡ steppedBy (scanOf (dockWith (now (map .entry)) (now (closed .entry)) (now (counts .entry)) (now (held .entry)) (now (types .entry)) rest) (bytesFrom (now (line .entry)) 0 18)) ⌝ }
+    requires { ⌜ (inRange (dockIn map closed counts held types rest) ≡ true) × (length (now closed) ≡ 18) × (length (now counts) ≡ 144) × (length (now line) ≡ 36) × (allDigits (now line) ≡ true) ⌝ }
+    ensures { λ r. ⌜ AllGive (λ (d : Dock). stepped d (r .printed)) (λ (d : Dock). steppedBy (scanOf d (bytesFrom (now (line .entry)) 0 18))) map closed counts held types rest (r .rest) ⌝ }
 {
     let scan = digits::scan_in(line);
     let answered = scan::scan_in_place(map, closed, counts, held, types, rest, &scan);
@@ -65,10 +63,7 @@ fn scan_line(
 // An empty line: a read.
 fn read_line(held: &mut Held, types: &Types, rest: Rest) -> SteppedRest
     requires { ⌜ goodRest rest ≡ true ⌝ }
-    ensures { λ r. ⌜ ((map closed counts : List ℕ)
-        → inRange (dockWith map closed counts (now (held .entry)) (now (types .entry)) rest) ≡ true
-        → steppedWith map closed counts (now (held .exit)) (now (types .entry)) r
-        ≡ steppedRead (readOf (dockWith map closed counts (now (held .entry)) (now (types .entry)) rest))) ⌝ }
+    ensures { λ r. ⌜ HeldGive (λ (d : Dock). stepped d (r .printed)) (λ (d : Dock). steppedRead (read d)) held types rest (r .rest) ⌝ }
 {
     let answered = wire::read::read_in_place(held, types, rest);
     let after = answered.rest;
@@ -89,10 +84,7 @@ fn frame_line(
     line: &[u8],
 ) -> SteppedRest
     requires { ⌜ (goodRest rest ≡ true) × (length (now line) ≡ 3) × (allDigits (now line) ≡ true) ⌝ }
-    ensures { λ r. ⌜ ((map : List ℕ)
-        → inRange (dockWith map (now (closed .entry)) (now (counts .entry)) (now (held .entry)) (now (types .entry)) rest) ≡ true
-        → steppedWith map (now (closed .exit)) (now (counts .exit)) (now (held .exit)) (now (types .exit)) r
-        ≡ steppedBy (frameOf (dockWith map (now (closed .entry)) (now (counts .entry)) (now (held .entry)) (now (types .entry)) rest) (frameIn (now (line .entry))))) ⌝ }
+    ensures { λ r. ⌜ ArraysGive (λ (d : Dock). stepped d (r .printed)) (λ (d : Dock). steppedBy (tookFrame (unpackedOf (frameIn (now (line .entry)))) d)) closed counts held types rest (r .rest) ⌝ }
 {
     let number = digits::frame_in(line);
     let answered = wire::frame::frame_in_place(closed, counts, held, types, rest, number);
@@ -114,10 +106,8 @@ fn map_line(
     rest: Rest,
     line: &[u8],
 ) -> SteppedRest
-    requires { ⌜ (inRange (dockWith (now map) (now closed) (now counts) (now held) (now types) rest) ≡ true) × (length (now line) ≡ 288)
-        × (allDigits (now line) ≡ true) ⌝ }
-    ensures { λ r. ⌜ steppedWith (now (map .exit)) (now (closed .exit)) (now (counts .exit)) (now (held .exit)) (now (types .entry)) r
-        ≡ steppedBy (swapOf (dockWith (now (map .entry)) (now (closed .entry)) (now (counts .entry)) (now (held .entry)) (now (types .entry)) rest) (bytesFrom (now (line .entry)) 0 144)) ⌝ }
+    requires { ⌜ (inRange (dockIn map closed counts held types rest) ≡ true) × (length (now line) ≡ 288) × (allDigits (now line) ≡ true) ⌝ }
+    ensures { λ r. ⌜ AllGive (λ (d : Dock). stepped d (r .printed)) (λ (d : Dock). steppedBy (swapOf d (bytesFrom (now (line .entry)) 0 144))) map closed counts held types rest (r .rest) ⌝ }
 {
     let new = digits::map_in(line);
     let answered = swap::swap_in_place(map, closed, counts, held, types, rest, &new);
@@ -139,10 +129,8 @@ pub fn step_in_place(
     rest: Rest,
     line: &[u8],
 ) -> SteppedRest
-    requires { ⌜ (inRange (dockWith (now map) (now closed) (now counts) (now held) (now types) rest) ≡ true) × (length (now closed) ≡ 18)
-        × (length (now counts) ≡ 144) ⌝ }
-    ensures { λ r. ⌜ steppedWith (now (map .exit)) (now (closed .exit)) (now (counts .exit)) (now (held .exit)) (now (types .exit)) r
-        ≡ stepOf (dockWith (now (map .entry)) (now (closed .entry)) (now (counts .entry)) (now (held .entry)) (now (types .entry)) rest) (now (line .entry)) ⌝ }
+    requires { ⌜ (inRange (dockIn map closed counts held types rest) ≡ true) × (length (now closed) ≡ 18) × (length (now counts) ≡ 144) ⌝ }
+    ensures { λ r. ⌜ AllGive (λ (d : Dock). stepped d (r .printed)) (λ (d : Dock). stepOf d (now (line .entry))) map closed counts held types rest (r .rest) ⌝ }
 {
     let kind = text::kind_of(line);
     match kind {

@@ -13,10 +13,11 @@ ghost use mathlib.Core.Bool.{true};
 ghost use mathlib.Core.List.{List};
 ghost use Prim.Native.Nat.{ℕ};
 ghost use lib.ListN.{length};
+ghost use Rattle.record.specs.declared.Dock.{Dock};
 ghost use Rattle.record.specs.Parts.{dockWith};
+ghost use Rattle.record.specs.InPlace.{dockIn, HeldAfter, AllAfter, AllGive};
 ghost use Rattle.range.specs.Range.{goodRest, inRange};
-ghost use Rattle.dock.specs.Answers.{answeredWith};
-ghost use Rattle.record.specs.InPlace.{HeldAfter};
+ghost use Rattle.dock.specs.Answers.{answered};
 ghost use Rattle.dock.specs.Scan.{listening, counting, changed, repeating, heardScan, scanOf};
 
 // Scans are listened to.
@@ -36,10 +37,8 @@ fn count(
     rest: Rest,
     scan: &[u8],
 ) -> Rest
-    requires { ⌜ (inRange (dockWith (now map) (now closed) (now counts) (now held) (now types) rest) ≡ true) × (length (now closed) ≡ 18)
-        × (length (now counts) ≡ 144) × (length (now scan) ≡ 18) ⌝ }
-    ensures { λ r. ⌜ dockWith (now (map .entry)) (now (closed .exit)) (now (counts .exit)) (now (held .exit)) (now (types .entry)) r
-        ≡ counting (dockWith (now (map .entry)) (now (closed .entry)) (now (counts .entry)) (now (held .entry)) (now (types .entry)) rest) (now (scan .entry)) ⌝ }
+    requires { ⌜ (inRange (dockIn map closed counts held types rest) ≡ true) × (length (now closed) ≡ 18) × (length (now counts) ≡ 144) × (length (now scan) ≡ 18) ⌝ }
+    ensures { λ r. ⌜ AllAfter (λ (d : Dock). counting d (now (scan .entry))) map closed counts held types rest r ⌝ }
 {
     let was = *closed;
     contacts::count(closed, counts, scan);
@@ -61,10 +60,8 @@ fn change(
     rest: Rest,
     scan: &[u8],
 ) -> Rest
-    requires { ⌜ (inRange (dockWith (now map) (now closed) (now counts) (now held) (now types) rest) ≡ true) × (length (now closed) ≡ 18)
-        × (length (now counts) ≡ 144) × (length (now scan) ≡ 18) ⌝ }
-    ensures { λ r. ⌜ dockWith (now (map .entry)) (now (closed .exit)) (now (counts .exit)) (now (held .exit)) (now (types .entry)) r
-        ≡ changed (dockWith (now (map .entry)) (now (closed .entry)) (now (counts .entry)) (now (held .entry)) (now (types .entry)) rest) (now (scan .entry)) ⌝ }
+    requires { ⌜ (inRange (dockIn map closed counts held types rest) ≡ true) × (length (now closed) ≡ 18) × (length (now counts) ≡ 144) × (length (now scan) ≡ 18) ⌝ }
+    ensures { λ r. ⌜ AllAfter (λ (d : Dock). changed d (now (scan .entry))) map closed counts held types rest r ⌝ }
 {
     if contacts::at_rest(closed, counts, scan) {
         return rest;
@@ -78,7 +75,7 @@ fn change(
 // The repeat, after the scan's changes.
 fn repeat(held: &Held, types: &Types, rest: Rest) -> Rest
     requires { ⌜ goodRest rest ≡ true ⌝ }
-    ensures { λ r. ⌜ HeldAfter repeating (now (held .entry)) (now (types .entry)) rest (now (held .entry)) r ⌝ }
+    ensures { λ r. ⌜ HeldAfter repeating held types rest r ⌝ }
 {
     let replies = rest.replies;
     let outgoing = rest.outgoing;
@@ -101,10 +98,8 @@ fn hear(
     rest: Rest,
     scan: &[u8],
 ) -> Rest
-    requires { ⌜ (inRange (dockWith (now map) (now closed) (now counts) (now held) (now types) rest) ≡ true) × (length (now closed) ≡ 18)
-        × (length (now counts) ≡ 144) × (length (now scan) ≡ 18) ⌝ }
-    ensures { λ r. ⌜ dockWith (now (map .entry)) (now (closed .exit)) (now (counts .exit)) (now (held .exit)) (now (types .entry)) r
-        ≡ heardScan (dockWith (now (map .entry)) (now (closed .entry)) (now (counts .entry)) (now (held .entry)) (now (types .entry)) rest) (now (scan .entry)) ⌝ }
+    requires { ⌜ (inRange (dockIn map closed counts held types rest) ≡ true) × (length (now closed) ≡ 18) × (length (now counts) ≡ 144) × (length (now scan) ≡ 18) ⌝ }
+    ensures { λ r. ⌜ AllAfter (λ (d : Dock). heardScan d (now (scan .entry))) map closed counts held types rest r ⌝ }
 {
     let outgoing = rest.outgoing;
     let mut after = rest;
@@ -123,10 +118,8 @@ pub fn scan_in_place(
     rest: Rest,
     scan: &[u8],
 ) -> AnsweredRest
-    requires { ⌜ (inRange (dockWith (now map) (now closed) (now counts) (now held) (now types) rest) ≡ true) × (length (now closed) ≡ 18)
-        × (length (now counts) ≡ 144) ⌝ }
-    ensures { λ r. ⌜ answeredWith (now (map .entry)) (now (closed .exit)) (now (counts .exit)) (now (held .exit)) (now (types .entry)) r
-        ≡ scanOf (dockWith (now (map .entry)) (now (closed .entry)) (now (counts .entry)) (now (held .entry)) (now (types .entry)) rest) (now (scan .entry)) ⌝ }
+    requires { ⌜ (inRange (dockIn map closed counts held types rest) ≡ true) × (length (now closed) ≡ 18) × (length (now counts) ≡ 144) ⌝ }
+    ensures { λ r. ⌜ AllGive (answered (r .answer)) (λ (d : Dock). scanOf d (now (scan .entry))) map closed counts held types rest (r .rest) ⌝ }
 {
     if scan.len() != 18 {
         return AnsweredRest {

@@ -14,9 +14,11 @@ ghost use mathlib.Core.Path.{_≡_};
 ghost use mathlib.Core.Bool.{true};
 ghost use mathlib.Core.List.{List};
 ghost use Prim.Native.Nat.{ℕ};
+ghost use Rattle.record.specs.declared.Dock.{Dock};
 ghost use Rattle.record.specs.Parts.{dockWith};
+ghost use Rattle.record.specs.InPlace.{dockIn, AllGive};
 ghost use Rattle.range.specs.Range.{inRange};
-ghost use Rattle.dock.specs.Answers.{answeredWith};
+ghost use Rattle.dock.specs.Answers.{answered};
 ghost use Rattle.dock.specs.Swap.{remapped, swapOf};
 
 // What a swap does beside replacing the map: the first drops contact history and the repeating key, and a handover opens. While one is
@@ -52,9 +54,8 @@ pub fn swap_in_place(
     rest: Rest,
     new: &[u8],
 ) -> AnsweredRest
-    requires { ⌜ inRange (dockWith (now map) (now closed) (now counts) (now held) (now types) rest) ≡ true ⌝ }
-    ensures { λ r. ⌜ answeredWith (now (map .exit)) (now (closed .exit)) (now (counts .exit)) (now (held .exit)) (now (types .entry)) r
-        ≡ swapOf (dockWith (now (map .entry)) (now (closed .entry)) (now (counts .entry)) (now (held .entry)) (now (types .entry)) rest) (now (new .entry)) ⌝ }
+    requires { ⌜ inRange (dockIn map closed counts held types rest) ≡ true ⌝ }
+    ensures { λ r. ⌜ AllGive (answered (r .answer)) (λ (d : Dock). swapOf d (now (new .entry))) map closed counts held types rest (r .rest) ⌝ }
 {
     if new.len() != 144 {
         return AnsweredRest {

@@ -12,12 +12,11 @@ use record::Rest;
 use record::Types;
 ghost use mathlib.Core.Path.{_≡_};
 ghost use mathlib.Core.Bool.{true};
-ghost use mathlib.Core.List.{List};
-ghost use Prim.Native.Nat.{ℕ};
-ghost use Rattle.record.specs.Parts.{dockWith};
-ghost use Rattle.range.specs.Range.{goodRest, inRange};
-ghost use Rattle.dock.specs.Answers.{answeredWith};
-ghost use Rattle.dock.specs.Frame.{frameOf};
+ghost use Rattle.frames.specs.Frames.{unpackedOf};
+ghost use Rattle.record.specs.InPlace.{ArraysGive};
+ghost use Rattle.range.specs.Range.{goodRest};
+ghost use Rattle.dock.specs.Answers.{answered};
+ghost use Rattle.dock.specs.Frame.{tookFrame};
 
 // The frame call in place, of a record in its range, whatever the map is.
 pub fn frame_in_place(
@@ -29,10 +28,7 @@ pub fn frame_in_place(
     number: u32,
 ) -> AnsweredRest
     requires { ⌜ goodRest rest ≡ true ⌝ }
-    ensures { λ r. ⌜ ((map : List ℕ)
-        → inRange (dockWith map (now (closed .entry)) (now (counts .entry)) (now (held .entry)) (now (types .entry)) rest) ≡ true
-        → answeredWith map (now (closed .exit)) (now (counts .exit)) (now (held .exit)) (now (types .exit)) r
-        ≡ frameOf (dockWith map (now (closed .entry)) (now (counts .entry)) (now (held .entry)) (now (types .entry)) rest) number) ⌝ }
+    ensures { λ r. ⌜ ArraysGive (answered (r .answer)) (tookFrame (unpackedOf number)) closed counts held types rest (r .rest) ⌝ }
 {
     let unpacked = frames::unpack(number);
     match unpacked {

@@ -7,14 +7,12 @@ use record::Rest;
 use record::Types;
 ghost use mathlib.Core.Path.{_≡_};
 ghost use mathlib.Core.Bool.{true};
-ghost use mathlib.Core.List.{List};
-ghost use Prim.Native.Nat.{ℕ, _≤_};
+ghost use Prim.Native.Nat.{_≤_};
 ghost use Rattle.record.specs.declared.Dock.{Dock};
-ghost use Rattle.record.specs.Parts.{dockWith};
-ghost use Rattle.record.specs.InPlace.{RestAfter};
-ghost use Rattle.range.specs.Range.{goodRest, inRange};
-ghost use Rattle.dock.specs.Answers.{takenWith};
-ghost use Rattle.dock.specs.Read.{remembering, replyTaken, keyByteTaken, readOf};
+ghost use Rattle.record.specs.InPlace.{RestAfter, HeldGive};
+ghost use Rattle.range.specs.Range.{goodRest};
+ghost use Rattle.dock.specs.Answers.{taken};
+ghost use Rattle.dock.specs.Read.{remembering, replyTaken, keyByteTaken, read};
 
 // A byte was given.
 fn remember(rest: Rest, byte: u8) -> Rest
@@ -31,9 +29,7 @@ fn remember(rest: Rest, byte: u8) -> Rest
 // The oldest reply.
 fn take_reply(held: &mut Held, types: &Types, rest: Rest) -> TakenRest
     requires { ⌜ (goodRest rest ≡ true) × (1 ≤ rest .replies .length) ⌝ }
-    ensures { λ r. ⌜ ((map closed counts : List ℕ)
-        → takenWith map closed counts (now (held .exit)) (now (types .entry)) r
-        ≡ replyTaken (dockWith map closed counts (now (held .entry)) (now (types .entry)) rest)) ⌝ }
+    ensures { λ r. ⌜ HeldGive (taken (r .given)) replyTaken held types rest (r .rest) ⌝ }
 {
     let replies = rest.replies;
     let byte = replies.bytes[0];
@@ -48,9 +44,7 @@ fn take_reply(held: &mut Held, types: &Types, rest: Rest) -> TakenRest
 // The oldest key byte.
 fn take_key_byte(held: &mut Held, types: &Types, rest: Rest) -> TakenRest
     requires { ⌜ (goodRest rest ≡ true) × (1 ≤ rest .outgoing .queue .length) ⌝ }
-    ensures { λ r. ⌜ ((map closed counts : List ℕ)
-        → takenWith map closed counts (now (held .exit)) (now (types .entry)) r
-        ≡ keyByteTaken (dockWith map closed counts (now (held .entry)) (now (types .entry)) rest)) ⌝ }
+    ensures { λ r. ⌜ HeldGive (taken (r .given)) keyByteTaken held types rest (r .rest) ⌝ }
 {
     let mut outgoing = rest.outgoing;
     let queue = outgoing.queue;
@@ -67,10 +61,7 @@ fn take_key_byte(held: &mut Held, types: &Types, rest: Rest) -> TakenRest
 // The read call in place, of a record in its range, whatever the map and the contacts are.
 pub fn read_in_place(held: &mut Held, types: &Types, rest: Rest) -> TakenRest
     requires { ⌜ goodRest rest ≡ true ⌝ }
-    ensures { λ r. ⌜ ((map closed counts : List ℕ)
-        → inRange (dockWith map closed counts (now (held .entry)) (now (types .entry)) rest) ≡ true
-        → takenWith map closed counts (now (held .exit)) (now (types .entry)) r
-        ≡ readOf (dockWith map closed counts (now (held .entry)) (now (types .entry)) rest)) ⌝ }
+    ensures { λ r. ⌜ HeldGive (taken (r .given)) read held types rest (r .rest) ⌝ }
 {
     let replies = rest.replies;
     if replies.length != 0 {

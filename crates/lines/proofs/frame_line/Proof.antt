@@ -3,19 +3,20 @@ use mathlib.Core.Path.{ap, _∙_}
 use Prim.Native.Nat.{ℕ}
 use borrow.Author.Needs.{needs}
 use Rattle.dock.specs.Answers.{answeredWith}
-use Rattle.dock.specs.Frame.{frameOf}
+use Rattle.dock.specs.Frame.{tookFrame}
+use Rattle.frames.specs.Frames.{unpackedOf}
 use Rattle.record.specs.Parts.{dockWith}
 use Rattle.lines.proofs.Printing.{answer-steps}
 use Rattle.lines.proofs.frame_line.Statement.{statement}
 use Rattle.lines.proofs.frame_line.Tie as tie
 
 returns : tie.Need-returns
-returns c = λ map known.
+returns c = λ map.
     let x = c .before .before .frame-in-place in
     let digits = c .before .before .before .before .before .before .before in
     let a = digits .before .before .args in
     answer-steps (answeredWith map (x .last .0) (x .last .1 .0) (x .last .1 .1 .0) (x .last .1 .1 .1 .0) (x .result)) _ _
-    (x .ensures map known ∙ ap (λ (n : ℕ). frameOf (dockWith map (a .closed .now) (a .counts .now) (a .held .now) (a .types .now) (a .rest)) n) (digits .frame-in .ensures))
+    (x .ensures map ∙ ap (λ (n : ℕ). tookFrame (unpackedOf n) (dockWith map (a .closed .now) (a .counts .now) (a .held .now) (a .types .now) (a .rest))) (digits .frame-in .ensures))
     (c .answer-prints .ensures)
 
 pub frame-line-spec : {M : Type 1} → statement M

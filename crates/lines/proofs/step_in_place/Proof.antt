@@ -1,10 +1,13 @@
 -- `lines::step_in_place` meets its contract: the kind of the line decides, and gives the digits that each call asks for. Assumes nothing.
-use mathlib.Core.Path.{refl, sym, _∙_}
+use mathlib.Core.Path.{refl, sym, ap, _∙_}
 use borrow.Author.Needs.{needs}
 use Rattle.record.specs.Parts.{dockWith}
 use Rattle.range.proofs.Ranges.{in-range-rest}
+use Rattle.dock.proofs.Framing.{frame-taken}
+use Rattle.dock.proofs.Reading.{read-done}
 use Rattle.text.specs.declared.Kind.the-variants.{Read, Frame, Scan, Map, Malformed}
 use Rattle.text.proofs.Lengths.{scan-is, frame-is, map-is}
+use Rattle.lines.specs.Steps.{steppedBy, steppedRead}
 use Rattle.lines.proofs.Printing.{by-kind}
 use Rattle.lines.proofs.step_in_place.Statement.{statement}
 use Rattle.lines.proofs.step_in_place.Tie as tie
@@ -52,7 +55,7 @@ returns-2 c =
     let s = told .before .before .before .before in
     let a = s .args in
     by-kind _ (s .pre .0) _ _ Read _ (told .before .before .kind-of .ensures) (told .enum-told2 .given .1)
-    (c .read-line .ensures (a .map .now) (a .closed .now) (a .counts .now) (s .pre .0))
+    (c .read-line .ensures (a .map .now) (a .closed .now) (a .counts .now) ∙ ap steppedRead (read-done _ (s .pre .0)))
 
 returns-3 : tie.Need-returns-3
 returns-3 c =
@@ -60,7 +63,7 @@ returns-3 c =
     let s = told .before .before .before .before in
     let a = s .args in
     by-kind _ (s .pre .0) _ _ Frame _ (told .before .before .kind-of .ensures) (told .enum-told3 .given .1)
-    (c .frame-line .ensures (a .map .now) (s .pre .0))
+    (c .frame-line .ensures (a .map .now) ∙ ap steppedBy (frame-taken _ _ (s .pre .0)))
 
 returns-4 : tie.Need-returns-4
 returns-4 c =

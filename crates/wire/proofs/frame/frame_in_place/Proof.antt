@@ -27,28 +27,28 @@ close-in-place-requires-2 c κs =
     in-range-rest _ (byte-leaves-range d (alone-in-range (a .rest) (s .pre) _ _ _ _) _ _ (took .take .ensures []))
 
 returns : tie.Need-returns
-returns c = λ map known.
+returns c = λ map.
     let unpacked = c .before .before in
     let a = unpacked .before .args in
-    frame-too-large (dockWith map (a .closed .now) (a .counts .now) (a .held .now) (a .types .now) (a .rest)) (a .number) known _ (unpacked .unpack .ensures .answer) (c .enum-told .given .1)
+    frame-too-large (dockWith map (a .closed .now) (a .counts .now) (a .held .now) (a .types .now) (a .rest)) (a .number) _ (unpacked .unpack .ensures .answer) (c .enum-told .given .1)
 
 returns-2 : tie.Need-returns-2
-returns-2 c = λ map known.
+returns-2 c = λ map.
     let told = c .before .before .before .before in
     let unpacked = told .before .before in
     let a = unpacked .before .args in
-    frame-broken (dockWith map (a .closed .now) (a .counts .now) (a .held .now) (a .types .now) (a .rest)) (a .number) known
+    frame-broken (dockWith map (a .closed .now) (a .counts .now) (a .held .now) (a .types .now) (a .rest)) (a .number)
     _ (unpacked .unpack .ensures .answer) (dockWith map (a .closed .now) (a .counts .now) (a .held .now) (a .types .now) (c .before .reply .result))
     _ (c .close-in-place .ensures map (a .closed .now) (a .counts .now)) (told .enum-told2 .given .1)
     (c .before .reply .ensures map (a .closed .now) (a .counts .now) (a .held .now) (a .types .now))
 
 returns-3 : tie.Need-returns-3
-returns-3 c = λ map known.
+returns-3 c = λ map.
     let took = c .before .before .before in
     let told = took .before .before .before .before .before in
     let unpacked = told .before .before .before in
     let a = unpacked .before .args in
-    frame-byte (dockWith map (a .closed .now) (a .counts .now) (a .held .now) (a .types .now) (a .rest)) (a .number) known
+    frame-byte (dockWith map (a .closed .now) (a .counts .now) (a .held .now) (a .types .now) (a .rest)) (a .number)
     _ (unpacked .unpack .ensures .answer)
     _ _ (c .close-in-place2 .ensures map _ _) _ (told .before .unpacked .given .1) (took .take .ensures map)
 

@@ -9,32 +9,32 @@ take-reply-requires : tie.Need-take-reply-requires
 take-reply-requires c κs = (c .before .before .before .before .pre, search needs)
 
 returns : tie.Need-returns
-returns c = λ map closed counts known.
+returns c = λ map closed counts.
     let some = c .before .before in
     let a = some .before .before .before .args in
-    read-reply (dockWith map closed counts (a .held .now) (a .types .now) (a .rest)) known (some .if1 .taken)
+    read-reply (dockWith map closed counts (a .held .now) (a .types .now) (a .rest)) (some .if1 .taken)
     _ (c .take-reply .ensures map closed counts)
 
 take-key-byte-requires : tie.Need-take-key-byte-requires
 take-key-byte-requires c κs = (c .before .before .before .before .before .before .before .before .pre, search needs)
 
 returns-2 : tie.Need-returns-2
-returns-2 c = λ map closed counts known.
+returns-2 c = λ map closed counts.
     let some = c .before .before in
     let none = some .before .before .before .before in
     let a = none .before .before .before .args in
-    read-key-byte (dockWith map closed counts (a .held .now) (a .types .now) (a .rest)) known (none .if1 .left) (some .if2 .taken)
+    read-key-byte (dockWith map closed counts (a .held .now) (a .types .now) (a .rest)) (none .if1 .left) (some .if2 .taken)
     _ (c .take-key-byte .ensures map closed counts)
 
 close-in-place-requires : tie.Need-close-in-place-requires
 close-in-place-requires c κs = c .before .before .before .before .before .before .before .before .pre
 
 returns-3 : tie.Need-returns-3
-returns-3 c = λ map closed counts known.
+returns-3 c = λ map closed counts.
     let empty = c .before .before in
     let none = empty .before .before .before .before in
     let a = none .before .before .before .args in
-    read-nothing (dockWith map closed counts (a .held .now) (a .types .now) (a .rest)) known (none .if1 .left) (empty .if2 .left)
+    read-nothing (dockWith map closed counts (a .held .now) (a .types .now) (a .rest)) (none .if1 .left) (empty .if2 .left)
     _ (c .close-in-place .ensures map closed counts)
 
 pub read-in-place-spec : {M : Type 1} → statement M
