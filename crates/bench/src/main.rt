@@ -15,6 +15,7 @@ ghost use mathlib.Core.Bool.{true};
 ghost use Prim.Native.Nat.{_≤_};
 ghost use lib.ListN.{length};
 ghost use Rattle.record.specs.InPlace.{dockIn};
+ghost use Rattle.dock.specs.Standing.{Standing};
 ghost use Rattle.range.specs.Range.{inRange};
 
 // What is left of a text after its whole lines were run: the dock, the characters used, and the characters to be printed.
@@ -50,8 +51,7 @@ fn run_in_place(
     out: &mut [u8],
 ) -> RanRest
     requires { ⌜ (length (now text) ≤ 16384) × (length (now out) ≡ 65536)
-        × (inRange (dockIn map closed counts held types before) ≡ true) × (length (now closed) ≡ 18)
-        × (length (now counts) ≡ 144) ⌝ }
+        × Standing (dockIn map closed counts held types before) ⌝ }
     ensures { λ r. ⌜ (r .used ≤ length (now (text .entry))) × (r .written ≤ 65536)
         × (inRange (dockIn (map .exit) (closed .exit) (counts .exit) (held .exit) (types .exit) (r .rest)) ≡ true) ⌝ }
 {

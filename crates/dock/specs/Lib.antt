@@ -5,3 +5,4 @@ pub mod Read
 pub mod Swap
 pub mod Frame
 pub mod Calls
+pub mod Standing

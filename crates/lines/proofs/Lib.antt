@@ -1,5 +1,4 @@
 pub mod Printing
-pub mod Lengths
 pub mod InRange
 pub mod Refusals
 pub mod Saying

@@ -14,6 +14,7 @@ ghost use mathlib.Core.Path.{_≡_};
 ghost use mathlib.Core.Bool.{true};
 ghost use lib.ListN.{length};
 ghost use Rattle.basics.specs.Said.{Answers};
+ghost use Rattle.dock.specs.Standing.{Standing};
 ghost use Rattle.dock.specs.Scan.{scanOf};
 ghost use Rattle.dock.specs.Swap.{swapOf};
 ghost use Rattle.dock.specs.Frame.{tookFrame};
@@ -47,7 +48,7 @@ fn scan_line(
     rest: Rest,
     line: &[u8],
 ) -> SteppedRest
-    requires { ⌜ (inRange (dockIn map closed counts held types rest) ≡ true) × (length (now closed) ≡ 18) × (length (now counts) ≡ 144) × (length (now line) ≡ 36) × (allDigits (now line) ≡ true) ⌝ }
+    requires { ⌜ Standing (dockIn map closed counts held types rest) × (length (now line) ≡ 36) × (allDigits (now line) ≡ true) ⌝ }
     ensures { λ r. ⌜ AllGive (λ (d : Dock). stepped d (r .printed)) (λ (d : Dock). steppedBy (scanOf d (bytesFrom (now (line .entry)) 0 18))) map closed counts held types rest (r .rest) ⌝ }
 {
     let scan = digits::scan_in(line);
@@ -129,7 +130,7 @@ pub fn step_in_place(
     rest: Rest,
     line: &[u8],
 ) -> SteppedRest
-    requires { ⌜ (inRange (dockIn map closed counts held types rest) ≡ true) × (length (now closed) ≡ 18) × (length (now counts) ≡ 144) ⌝ }
+    requires { ⌜ Standing (dockIn map closed counts held types rest) ⌝ }
     ensures { λ r. ⌜ AllGive (λ (d : Dock). stepped d (r .printed)) (λ (d : Dock). stepOf d (now (line .entry))) map closed counts held types rest (r .rest) ⌝ }
 {
     let kind = text::kind_of(line);

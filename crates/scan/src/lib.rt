@@ -16,8 +16,9 @@ ghost use lib.ListN.{length};
 ghost use Rattle.record.specs.declared.Dock.{Dock};
 ghost use Rattle.record.specs.Parts.{dockWith};
 ghost use Rattle.record.specs.InPlace.{dockIn, HeldAfter, AllAfter, AllGive};
-ghost use Rattle.range.specs.Range.{goodRest, inRange};
+ghost use Rattle.range.specs.Range.{goodRest};
 ghost use Rattle.dock.specs.Answers.{answered};
+ghost use Rattle.dock.specs.Standing.{Standing};
 ghost use Rattle.dock.specs.Scan.{listening, counting, changed, repeating, heardScan, scanOf};
 
 // Scans are listened to.
@@ -37,7 +38,7 @@ fn count(
     rest: Rest,
     scan: &[u8],
 ) -> Rest
-    requires { ⌜ (inRange (dockIn map closed counts held types rest) ≡ true) × (length (now closed) ≡ 18) × (length (now counts) ≡ 144) × (length (now scan) ≡ 18) ⌝ }
+    requires { ⌜ Standing (dockIn map closed counts held types rest) × (length (now scan) ≡ 18) ⌝ }
     ensures { λ r. ⌜ AllAfter (λ (d : Dock). counting d (now (scan .entry))) map closed counts held types rest r ⌝ }
 {
     let was = *closed;
@@ -60,7 +61,7 @@ fn change(
     rest: Rest,
     scan: &[u8],
 ) -> Rest
-    requires { ⌜ (inRange (dockIn map closed counts held types rest) ≡ true) × (length (now closed) ≡ 18) × (length (now counts) ≡ 144) × (length (now scan) ≡ 18) ⌝ }
+    requires { ⌜ Standing (dockIn map closed counts held types rest) × (length (now scan) ≡ 18) ⌝ }
     ensures { λ r. ⌜ AllAfter (λ (d : Dock). changed d (now (scan .entry))) map closed counts held types rest r ⌝ }
 {
     if contacts::at_rest(closed, counts, scan) {
@@ -98,7 +99,7 @@ fn hear(
     rest: Rest,
     scan: &[u8],
 ) -> Rest
-    requires { ⌜ (inRange (dockIn map closed counts held types rest) ≡ true) × (length (now closed) ≡ 18) × (length (now counts) ≡ 144) × (length (now scan) ≡ 18) ⌝ }
+    requires { ⌜ Standing (dockIn map closed counts held types rest) × (length (now scan) ≡ 18) ⌝ }
     ensures { λ r. ⌜ AllAfter (λ (d : Dock). heardScan d (now (scan .entry))) map closed counts held types rest r ⌝ }
 {
     let outgoing = rest.outgoing;
@@ -118,7 +119,7 @@ pub fn scan_in_place(
     rest: Rest,
     scan: &[u8],
 ) -> AnsweredRest
-    requires { ⌜ (inRange (dockIn map closed counts held types rest) ≡ true) × (length (now closed) ≡ 18) × (length (now counts) ≡ 144) ⌝ }
+    requires { ⌜ Standing (dockIn map closed counts held types rest) ⌝ }
     ensures { λ r. ⌜ AllGive (answered (r .answer)) (λ (d : Dock). scanOf d (now (scan .entry))) map closed counts held types rest (r .rest) ⌝ }
 {
     if scan.len() != 18 {

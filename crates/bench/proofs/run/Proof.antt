@@ -4,7 +4,7 @@ use Rattle.bench.proofs.run.Statement.{statement}
 use Rattle.bench.proofs.run.Tie as tie
 
 run-in-place-requires : tie.Need-run-in-place-requires
-run-in-place-requires c κs = (search needs, search needs, search needs, search needs, search needs)
+run-in-place-requires c κs = (search needs, search needs, record { range = search needs; closed = search needs; counts = search needs })
 
 returns : tie.Need-returns
 returns c = c .before .before .before .run-in-place .ensures

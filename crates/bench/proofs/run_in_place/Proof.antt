@@ -1,15 +1,13 @@
 -- `bench::run_in_place` is safe and ends. After the lines up to `at`, at most four characters were written for each character used; each turn
 -- uses at least a newline. The record stays in range, and its contacts keep their sizes. Assumes nothing.
 use mathlib.Core.Path.{_≡_}
-use mathlib.Core.Bool.{true}
 use Prim.Native.Nat.{_≤_, _+_, _-_, _*_}
 use native.Mathlib.Omega.{arith}
 use borrow.Author.Needs.{needs}
 use lib.ListN.{length}
-use Rattle.lines.proofs.InRange.{stepped-in-range}
-use Rattle.lines.proofs.Lengths.{stepped-lengths}
+use Rattle.dock.specs.Standing.{Standing}
+use Rattle.lines.proofs.InRange.{stepped-standing}
 use Rattle.record.specs.Parts.{dockWith}
-use Rattle.range.specs.Range.{inRange}
 use Rattle.text.proofs.Newlines.{line-end-after, line-end-within}
 use Rattle.printing.proofs.Prints.{few}
 use Rattle.bench.proofs.run_in_place.Statement.{statement}
@@ -18,7 +16,7 @@ use Rattle.bench.proofs.run_in_place.Tie as tie
 abbrev Inv-loop : tie.InvT-loop
 Inv-loop map₀ closed₀ counts₀ held₀ types₀ text out₀ rest₀ at₀ written₀ end₀ map closed counts held types out rest at written end =
     (at ≤ end) × (end ≤ length text) × (written ≤ 4 * at) × (length out ≡ 65536)
-    × (inRange (dockWith map closed counts held types rest) ≡ true) × (length closed ≡ 18) × (length counts ≡ 144)
+    × Standing (dockWith map closed counts held types rest)
 
 abbrev μ-loop : tie.MeasureT-loop
 μ-loop map₀ closed₀ counts₀ held₀ types₀ text out₀ rest₀ at₀ written₀ end₀ map closed counts held types out rest at written end =
@@ -29,7 +27,7 @@ loop-holds c =
     let s = c .before .before .before in
     let p = s .pre in
     let inside = line-end-within (s .args .text .now) 0 (omega arith) in
-    (omega (arith, c .end-of .ensures, inside), omega (arith, c .end-of .ensures, inside), omega arith, p .1, p .2, p .3, p .4)
+    (omega (arith, c .end-of .ensures, inside), omega (arith, c .end-of .ensures, inside), omega arith, p .1, p .2)
 
 sub-step-in-place : tie.Need-sub-step-in-place Inv-loop μ-loop
 sub-step-in-place c = omega (arith, c .before .before .before .before .before .before .loop .inv .0)
@@ -41,9 +39,7 @@ part-step-in-place-end : tie.Need-part-step-in-place-end Inv-loop μ-loop
 part-step-in-place-end c = omega (arith, c .before .before .before .before .before .before .loop .inv)
 
 step-in-place-requires : tie.Need-step-in-place-requires Inv-loop μ-loop
-step-in-place-requires c κs =
-    let i = c .before .before .before .before .before .before .before .loop .inv in
-    (i .4, i .5, i .6)
+step-in-place-requires c κs = c .before .before .before .before .before .before .before .loop .inv .4
 
 put-requires : tie.Need-put-requires Inv-loop μ-loop
 put-requires c κs =
@@ -62,17 +58,12 @@ loop-again c =
     let inside : e + 1 ≤ length t = omega (arith, c .before .before .before .before .before .before .before .before .before .before .before .before .before .loop-test .taken) in
     let x = c .before .before .before .before .before .before .step-in-place in
     let i = l .loop .inv in
-    let kept = stepped-in-range (l .loop .map) (l .loop .closed) (l .loop .counts) (l .loop .held) (l .loop .types) (l .loop .rest) _
-    (x .last .0) (x .last .1 .0) (x .last .1 .1 .0) (x .last .1 .1 .1 .0) (x .last .1 .1 .1 .1 .0) (x .result) (x .ensures) (i .4) in
-    let sizes = stepped-lengths (l .loop .map) (l .loop .closed) (l .loop .counts) (l .loop .held) (l .loop .types) (l .loop .rest) _
-    (x .last .0) (x .last .1 .0) (x .last .1 .1 .0) (x .last .1 .1 .1 .0) (x .last .1 .1 .1 .1 .0) (x .result) (x .ensures) (i .5) (i .6) in (
+    let d = dockWith (l .loop .map) (l .loop .closed) (l .loop .counts) (l .loop .held) (l .loop .types) (l .loop .rest) in (
       omega (arith, c .end-of2 .ensures, line-end-after t (e + 1)),
       omega (arith, c .end-of2 .ensures, line-end-within t (e + 1) inside),
       omega (arith, few (x .result .printed)),
       search needs,
-      kept,
-      sizes .0,
-      sizes .1,
+      stepped-standing d _ _ (x .ensures) (i .4),
     )
 
 same-length : tie.Need-same-length Inv-loop μ-loop
@@ -82,7 +73,7 @@ returns : tie.Need-returns Inv-loop μ-loop
 returns c =
     let i = c .before .loop .inv in
     let short = c .before .before .before .before .before .pre .0 in
-    (omega (arith, i .0, i .1), omega (arith, i .0, i .1, i .2, short), i .4)
+    (omega (arith, i .0, i .1), omega (arith, i .0, i .1, i .2, short), i .4 .range)
 
 pub run-in-place-spec : {M : Type 1} → statement M
 run-in-place-spec =

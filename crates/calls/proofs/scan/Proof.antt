@@ -11,7 +11,7 @@ returns : tie.Need-returns
 returns c = answering (scan-says _ _) (scan-bad-record _ _ (found-bad _ _ (c .before .in-range .ensures) (c .if1 .taken)))
 
 scan-in-place-requires : tie.Need-scan-in-place-requires
-scan-in-place-requires c κs = (search (needs, found-good), search needs, search needs)
+scan-in-place-requires c κs = record { range = search (needs, found-good); closed = search needs; counts = search needs }
 
 returns-2 : tie.Need-returns-2
 returns-2 c = answering (scan-says _ _) (c .before .scan-in-place .ensures)

@@ -11,7 +11,7 @@ returns : tie.Need-returns
 returns c = answering (step-says _ _) (bad-record-steps _ _ (found-bad _ _ (c .before .in-range .ensures) (c .if1 .taken)))
 
 step-in-place-requires : tie.Need-step-in-place-requires
-step-in-place-requires c κs = (search (needs, found-good), search needs, search needs)
+step-in-place-requires c κs = record { range = search (needs, found-good); closed = search needs; counts = search needs }
 
 returns-2 : tie.Need-returns-2
 returns-2 c = answering (step-says _ _) (c .before .step-in-place .ensures)

@@ -20,13 +20,13 @@ scan-line-requires c κs =
     let told = c .before .before .before .before .before in
     let s = told .before .before .before .before in
     let is = scan-is (s .args .line .now) (sym (told .before .before .kind-of .ensures) ∙ told .enum-told .given .1) in
-    (s .pre .0, s .pre .1, s .pre .2, is .0, is .1)
+    (s .pre, is .0, is .1)
 
 read-line-requires : tie.Need-read-line-requires
 read-line-requires c κs =
     let s = c .before .before .before .before .before .before in
     let a = s .args in
-    in-range-rest (dockWith (a .map .now) (a .closed .now) (a .counts .now) (a .held .now) (a .types .now) (a .rest)) (s .pre .0)
+    in-range-rest (dockWith (a .map .now) (a .closed .now) (a .counts .now) (a .held .now) (a .types .now) (a .rest)) (s .pre .range)
 
 frame-line-requires : tie.Need-frame-line-requires
 frame-line-requires c κs =
@@ -34,19 +34,19 @@ frame-line-requires c κs =
     let s = told .before .before .before .before in
     let a = s .args in
     let is = frame-is (a .line .now) (sym (told .before .before .kind-of .ensures) ∙ told .enum-told3 .given .1) in
-    (in-range-rest (dockWith (a .map .now) (a .closed .now) (a .counts .now) (a .held .now) (a .types .now) (a .rest)) (s .pre .0), is .0, is .1)
+    (in-range-rest (dockWith (a .map .now) (a .closed .now) (a .counts .now) (a .held .now) (a .types .now) (a .rest)) (s .pre .range), is .0, is .1)
 
 map-line-requires : tie.Need-map-line-requires
 map-line-requires c κs =
     let told = c .before .before .before .before .before in
     let s = told .before .before .before .before in
     let is = map-is (s .args .line .now) (sym (told .before .before .kind-of .ensures) ∙ told .enum-told4 .given .1) in
-    (s .pre .0, is .0, is .1)
+    (s .pre .range, is .0, is .1)
 
 returns : tie.Need-returns
 returns c =
     let told = c .before .before .before .before .before .before in
-    by-kind _ (told .before .before .before .before .pre .0) _ _ Scan _ (told .before .before .kind-of .ensures) (told .enum-told .given .1)
+    by-kind _ (told .before .before .before .before .pre .range) _ _ Scan _ (told .before .before .kind-of .ensures) (told .enum-told .given .1)
     (c .scan-line .ensures)
 
 returns-2 : tie.Need-returns-2
@@ -54,26 +54,26 @@ returns-2 c =
     let told = c .before .before .before in
     let s = told .before .before .before .before in
     let a = s .args in
-    by-kind _ (s .pre .0) _ _ Read _ (told .before .before .kind-of .ensures) (told .enum-told2 .given .1)
-    (c .read-line .ensures (a .map .now) (a .closed .now) (a .counts .now) ∙ ap steppedRead (read-done _ (s .pre .0)))
+    by-kind _ (s .pre .range) _ _ Read _ (told .before .before .kind-of .ensures) (told .enum-told2 .given .1)
+    (c .read-line .ensures (a .map .now) (a .closed .now) (a .counts .now) ∙ ap steppedRead (read-done _ (s .pre .range)))
 
 returns-3 : tie.Need-returns-3
 returns-3 c =
     let told = c .before .before .before .before .before in
     let s = told .before .before .before .before in
     let a = s .args in
-    by-kind _ (s .pre .0) _ _ Frame _ (told .before .before .kind-of .ensures) (told .enum-told3 .given .1)
-    (c .frame-line .ensures (a .map .now) ∙ ap steppedBy (frame-taken _ _ (s .pre .0)))
+    by-kind _ (s .pre .range) _ _ Frame _ (told .before .before .kind-of .ensures) (told .enum-told3 .given .1)
+    (c .frame-line .ensures (a .map .now) ∙ ap steppedBy (frame-taken _ _ (s .pre .range)))
 
 returns-4 : tie.Need-returns-4
 returns-4 c =
     let told = c .before .before .before .before .before .before in
-    by-kind _ (told .before .before .before .before .pre .0) _ _ Map _ (told .before .before .kind-of .ensures) (told .enum-told4 .given .1)
+    by-kind _ (told .before .before .before .before .pre .range) _ _ Map _ (told .before .before .kind-of .ensures) (told .enum-told4 .given .1)
     (c .map-line .ensures)
 
 returns-5 : tie.Need-returns-5
 returns-5 c =
-    by-kind _ (c .before .before .before .before .pre .0) _ _ Malformed _ (c .before .before .kind-of .ensures) (c .enum-told5 .given .1)
+    by-kind _ (c .before .before .before .before .pre .range) _ _ Malformed _ (c .before .before .kind-of .ensures) (c .enum-told5 .given .1)
     refl
 
 pub step-in-place-spec : {M : Type 1} → statement M

@@ -11,13 +11,13 @@ returns : tie.Need-returns
 returns c =
     let s = c .before .before in
     let a = s .args in
-    scan-wrong-length (dockWith (a .map .now) (a .closed .now) (a .counts .now) (a .held .now) (a .types .now) (a .rest)) (a .scan .now) (s .pre .0) (c .if1 .taken)
+    scan-wrong-length (dockWith (a .map .now) (a .closed .now) (a .counts .now) (a .held .now) (a .types .now) (a .rest)) (a .scan .now) (s .pre .range) (c .if1 .taken)
 
 close-in-place-requires : tie.Need-close-in-place-requires
 close-in-place-requires c κs =
     let s = c .before .before .before .before .before in
     let a = s .args in
-    in-range-rest (dockWith (a .map .now) (a .closed .now) (a .counts .now) (a .held .now) (a .types .now) (a .rest)) (s .pre .0)
+    in-range-rest (dockWith (a .map .now) (a .closed .now) (a .counts .now) (a .held .now) (a .types .now) (a .rest)) (s .pre .range)
 
 returns-2 : tie.Need-returns-2
 returns-2 c =
@@ -25,7 +25,7 @@ returns-2 c =
     let long = deaf .before .before in
     let s = long .before .before in
     let a = s .args in
-    scan-not-heard (dockWith (a .map .now) (a .closed .now) (a .counts .now) (a .held .now) (a .types .now) (a .rest)) (a .scan .now) (s .pre .0) (long .if1 .left)
+    scan-not-heard (dockWith (a .map .now) (a .closed .now) (a .counts .now) (a .held .now) (a .types .now) (a .rest)) (a .scan .now) (s .pre .range) (long .if1 .left)
     _ (deaf .before .is-listening .ensures (a .map .now) (a .closed .now) (a .counts .now) (a .held .now) (a .types .now))
     _ (not-true _ (deaf .if2 .taken)) (c .close-in-place .ensures (a .map .now) (a .closed .now) (a .counts .now))
 
@@ -33,7 +33,7 @@ hear-requires : tie.Need-hear-requires
 hear-requires c κs =
     let long = c .before .before .before .before .before in
     let s = long .before .before in
-    (s .pre .0, s .pre .1, s .pre .2, long .if1 .left)
+    (s .pre, long .if1 .left)
 
 returns-3 : tie.Need-returns-3
 returns-3 c =
@@ -41,7 +41,7 @@ returns-3 c =
     let long = listens .before .before in
     let s = long .before .before in
     let a = s .args in
-    scan-heard (dockWith (a .map .now) (a .closed .now) (a .counts .now) (a .held .now) (a .types .now) (a .rest)) (a .scan .now) (s .pre .0) (long .if1 .left)
+    scan-heard (dockWith (a .map .now) (a .closed .now) (a .counts .now) (a .held .now) (a .types .now) (a .rest)) (a .scan .now) (s .pre .range) (long .if1 .left)
     _ (listens .before .is-listening .ensures (a .map .now) (a .closed .now) (a .counts .now) (a .held .now) (a .types .now))
     _ (not-false _ (listens .if2 .left)) (c .hear .ensures)
 
