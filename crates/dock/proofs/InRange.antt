@@ -8,7 +8,7 @@ use Rattle.basics.specs.Lists.{allUpTo}
 use Rattle.basics.proofs.Cases.{picked}
 use Rattle.keys.specs.Keys.{lastKey}
 use Rattle.phantom.specs.Phantom.{isPhantom}
-use Rattle.contacts.specs.Counts.{countedOf}
+use Rattle.contacts.specs.Counts.{unseen, countedOf}
 use Rattle.commands.specs.Commands.{replying}
 use Rattle.host.specs.Values.{tookByte}
 use Rattle.commands.proofs.InRange.{InRange, replying-in-range}
@@ -20,11 +20,11 @@ use Rattle.queue.specs.declared.Queue.{Queue}
 use Rattle.replies.specs.declared.Replies.{Replies}
 use Rattle.queue.proofs.Range.{popped-tidy}
 use Rattle.replies.proofs.ReplyMeaning.{popped-replies-tidy}
-use Rattle.record.specs.Views.{Keys, keysOf, contactsOf, withQueue}
-use Rattle.record.specs.Parts.{withKeys, withContacts, withReplies}
+use Rattle.record.specs.Views.{Keys, keysOf, contactsOf, withQueue, withRepeat}
+use Rattle.record.specs.Parts.{withKeys, withContacts, withReplies, withMap}
 use Rattle.record.specs.declared.Dock.{Dock}
 use Rattle.range.specs.Range.{inRange}
-use Rattle.range.proofs.Ranges.{good-keys-queue, good-keys-with-queue, good-keys-with-repeat, in-range, in-range-map, in-range-keys, in-range-mode, in-range-replies, in-range-waiting, in-range-with-map, in-range-with-contacts, in-range-with-keys, in-range-with-replies, in-range-with-handover, in-range-with-given}
+use Rattle.range.proofs.Ranges.{good-keys-queue, good-keys-with-queue, good-keys-with-repeat, in-range-map, in-range-keys, in-range-mode, in-range-replies, in-range-with-map, in-range-with-contacts, in-range-with-keys, in-range-with-replies, in-range-with-handover, in-range-with-given}
 use Rattle.dock.specs.Closing.{closing}
 use Rattle.dock.specs.Scan.{counting, changed, quiet, repeating, heardScan, scanOf}
 use Rattle.dock.specs.Swap.{opened, remapped, swapOf}
@@ -111,7 +111,9 @@ opened-in-range : (d : Dock) (map : List ℕ) → inRange d ≡ true → allUpTo
 unfolding opened
 opened-in-range d map h g =
     let keys = good-keys-with-repeat (keysOf d) (in-range-keys d h) 0 0 (omega arith) (omega arith) in
-    in-range (opened d map) g keys (in-range-mode d h) (in-range-replies d h) (in-range-waiting d h)
+    let bare = withContacts (withMap d map) unseen in
+    let kept = in-range-with-contacts (withMap d map) (in-range-with-map d h map g) unseen in
+    in-range-with-handover (withKeys bare (withRepeat (keysOf d) 0 0)) (in-range-with-keys bare kept (withRepeat (keysOf d) 0 0) keys) true
 
 remapped-in-range : (d : Dock) (map : List ℕ) → inRange d ≡ true → allUpTo lastKey map ≡ true → inRange (remapped d map) ≡ true
 unfolding remapped
