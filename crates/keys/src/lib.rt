@@ -2,7 +2,7 @@
 // Whoever wants a row is lent the table, and nothing else names it. Two other parts have tables of their own, which their proofs
 // compute from this one: the way back from a code (lookup), and the default types (record::power).
 ghost use mathlib.Core.Path.{_≡_};
-ghost use Rattle.keys.specs.Keys.{laidOut, rowOf};
+ghost use Rattle.keys.specs.Keys.{laidOut, rowOf, markOf};
 
 // The four types that a key can have in set 3, numbered in the order of the commands F7 to FA.
 pub const TYPEMATIC: u8 = 0;
@@ -185,4 +185,11 @@ pub fn row_in(table: &Table, key: u8) -> Row
     }
     let row = table[(key - 1) as usize];
     Row(row[0], row[1], row[2], row[3])
+}
+
+// The overrun mark of a set (docs/RULES.md, section 7): what is queued, and read, in place of bytes that had no room.
+pub fn mark_of(set: u32) -> u8
+    ensures { λ r. ⌜ r ≡ markOf set ⌝ }
+{
+    if set == 1 { 0xff } else { 0x00 }
 }

@@ -4,13 +4,13 @@ mod set1; // set1.rt: the bytes of set 1
 mod set2; // set2.rt: the bytes of set 2
 mod set3; // set3.rt: the bytes of set 3
 
+use keys::mark_of;
 use set1::read1;
 use set2::read2;
 use set3::read3;
 use steps::end;
 ghost use mathlib.Core.Path.{_≡_};
 ghost use Rattle.basics.specs.Said.{Answers};
-ghost use Rattle.keys.specs.Keys.{markOf};
 ghost use Rattle.reader.specs.Reader.{readByte, answerOf, answerSays, answerSaid, pressOf};
 
 // What a byte tells.
@@ -45,13 +45,6 @@ pub struct Answer {
 pub struct Press {
     pub state: u32,
     pub key: u8,
-}
-
-// The overrun mark of a set.
-fn mark_of(set: u32) -> u8
-    ensures { λ r. ⌜ r ≡ markOf set ⌝ }
-{
-    if set == 1 { 0xff } else { 0x00 }
 }
 
 // A byte in a state of a set.

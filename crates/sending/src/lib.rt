@@ -2,6 +2,7 @@
 use codes::Action;
 use codes::Sequence;
 use keys::Table;
+use keys::mark_of;
 use queue::Queue;
 use record::Held;
 use record::Mode;
@@ -13,7 +14,7 @@ ghost use Rattle.basics.specs.Choice.{either};
 ghost use Rattle.codes.specs.declared.Action.the-variants.{Press, Release};
 ghost use Rattle.codes.specs.Codes.{pausesAtOnce, sendsRelease};
 ghost use Rattle.codes.specs.Sequences.{holding};
-ghost use Rattle.keys.specs.Keys.{markOf, laidOut};
+ghost use Rattle.keys.specs.Keys.{laidOut};
 ghost use Rattle.queue.specs.Queues.{queueWith, tidy, contents};
 ghost use Rattle.range.specs.Range.{goodMode};
 ghost use Rattle.record.specs.Held.{flagOf, modifiersOf};
@@ -99,19 +100,12 @@ fn bytes_in(held: &Held, table: &Table, mode: Mode, kind: u8, key: u8, action: A
     )
 }
 
-// The overrun mark of a set.
-fn mark_of(set: u8) -> u8
-    ensures { λ r. ⌜ r ≡ markOf set ⌝ }
-{
-    if set == 1 { 0xff } else { 0x00 }
-}
-
 // The queue with a sequence behind it, or with the overrun mark.
 pub fn queued(queue: Queue, mode: Mode, sequence: Sequence) -> Queue
     requires { ⌜ (tidy queue ≡ true) × (sequence .length ≤ 8) ⌝ }
     ensures { λ r. ⌜ r ≡ queuedOf queue mode (contents sequence) ⌝ }
 {
-    queue::pushed(queue, sequence, mark_of(mode.set))
+    queue::pushed(queue, sequence, mark_of(mode.set as u32))
 }
 
 // A release that sends nothing: that of PAUSE, which sent all on its press, and in set 3 those of keys whose type sends none. It is
@@ -155,11 +149,11 @@ pub fn send_press(
         ≡ queuedOf (queueWith (now (bytes .entry)) at) mode (sendsWith (now (held .entry)) mode kind key Press) ⌝ }
 {
     if at == 16 {
-        bytes[15] = mark_of(mode.set);
+        bytes[15] = mark_of(mode.set as u32);
         return 16;
     }
     let sequence = bytes_in(held, table, mode, kind, key, Action::Press);
-    queue::push(bytes, at, sequence, mark_of(mode.set))
+    queue::push(bytes, at, sequence, mark_of(mode.set as u32))
 }
 
 // What a release sends, likewise: nothing changes if it is silent, and where the shortest has no room the mark is put.
@@ -180,9 +174,9 @@ pub fn send_release(
         return at;
     }
     if 16 - at < shortest_release(mode.set) {
-        bytes[at - 1] = mark_of(mode.set);
+        bytes[at - 1] = mark_of(mode.set as u32);
         return at;
     }
     let sequence = bytes_in(held, table, mode, kind, key, Action::Release);
-    queue::push(bytes, at, sequence, mark_of(mode.set))
+    queue::push(bytes, at, sequence, mark_of(mode.set as u32))
 }

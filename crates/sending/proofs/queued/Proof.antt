@@ -9,4 +9,4 @@ unfolding queuedOf
 returns c = rw (c .before .mark-of .ensures) at (c .pushed .ensures)
 
 pub queued-spec : {M : Type 1} → statement M
-queued-spec = tie.close (tie.spec (λ c κs. search needs) (λ c κs. search needs) returns)
+queued-spec = tie.close (tie.spec (λ c. search needs) (λ c κs. search needs) (λ c κs. search needs) returns)

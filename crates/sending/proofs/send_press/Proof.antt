@@ -12,36 +12,38 @@ use Rattle.sending.proofs.send_press.Tie as tie
 
 returns : tie.Need-returns
 returns c =
-    let s = c .before .before in
+    let s = c .before .before .before in
     let a = s .args in
-    full-marks (a .bytes .now) (a .at) (a .mode) _ (s .pre .0) (s .pre .1) _ (c .mark-of .ensures) (c .before .if1 .taken)
+    full-marks (a .bytes .now) (a .at) (a .mode) _ (s .pre .0) (s .pre .1) _ (c .mark-of .ensures) (c .before .before .if1 .taken)
     (press-some (a .mode .set) (a .key) (a .kind) (modifiersOf (a .held .now)) (numLock (a .mode .indicators)))
 
 push-requires : tie.Need-push-requires
 unfolding sends
 push-requires c κs =
-    let s = c .before .before .before .before in
+    let s = c .before .before .before .before .before in
     let a = s .args in
     let k = keys (a .held .now) (queueWith (a .bytes .now) (a .at)) 0 0 in
-    (s .pre .0, sequence-short k (a .mode) (a .kind) (a .key) Press _ (c .before .before .bytes-in .ensures))
+    (s .pre .0, sequence-short k (a .mode) (a .kind) (a .key) Press _ (c .before .before .before .bytes-in .ensures))
 
 returns-2 : tie.Need-returns-2
 unfolding sends
 returns-2 c =
-    let s = c .before .before .before .before .before in
+    let s = c .before .before .before .before .before .before in
     let a = s .args in
     let k = keys (a .held .now) (queueWith (a .bytes .now) (a .at)) 0 0 in
     pushed-queues (a .bytes .now) (a .at) (a .mode) _ (s .pre .0) (s .pre .1) _ (c .before .mark-of2 .ensures) _ _
-    (sequence-is k (a .mode) (a .kind) (a .key) Press _ (c .before .before .before .bytes-in .ensures)) (c .push .ensures)
+    (sequence-is k (a .mode) (a .kind) (a .key) Press _ (c .before .before .before .before .bytes-in .ensures)) (c .push .ensures)
 
 pub send-press-spec : {M : Type 1} → statement M
 send-press-spec =
     tie.close
     (tie.spec
+    (λ c. search needs)  -- cast-mark-of
     (λ c κs. search needs)  -- mark-of-requires
     (λ c. search needs)  -- element-write-bytes
     returns
     (λ c κs. search needs)  -- bytes-in-requires
+    (λ c. search needs)  -- cast-mark-of-2
     (λ c κs. search needs)  -- mark-of-requires-2
     push-requires
     returns-2)

@@ -29,16 +29,16 @@ sub-if2 c = tidy-short _ (c .before .before .pre .0)
 
 sub-bytes : tie.Need-sub-bytes
 sub-bytes c =
-    let t = c .before in
+    let t = c .before .before in
     let a = t .before .before .before .before .args in
     little-room (a .mode .set) _ _ (t .before .shortest-release .ensures) (t .if2 .taken)
 
 element-write-bytes : tie.Need-element-write-bytes
-element-write-bytes c = omega (arith, tidy-short _ (c .before .before .before .before .before .pre .0))
+element-write-bytes c = omega (arith, tidy-short _ (c .before .before .before .before .before .before .pre .0))
 
 returns-2 : tie.Need-returns-2
 returns-2 c =
-    let t = c .before in
+    let t = c .before .before in
     let e = t .before .before in
     let s = e .before .before in
     let a = s .args in
@@ -50,19 +50,19 @@ returns-2 c =
 push-requires : tie.Need-push-requires
 unfolding sends
 push-requires c κs =
-    let s = c .before .before .before .before .before .before .before in
+    let s = c .before .before .before .before .before .before .before .before in
     let a = s .args in
     let k = keys (a .held .now) (queueWith (a .bytes .now) (a .at)) 0 0 in
-    (s .pre .0, sequence-short k (a .mode) (a .kind) (a .key) Release _ (c .before .before .bytes-in .ensures))
+    (s .pre .0, sequence-short k (a .mode) (a .kind) (a .key) Release _ (c .before .before .before .bytes-in .ensures))
 
 returns-3 : tie.Need-returns-3
 unfolding sends
 returns-3 c =
-    let s = c .before .before .before .before .before .before .before .before in
+    let s = c .before .before .before .before .before .before .before .before .before in
     let a = s .args in
     let k = keys (a .held .now) (queueWith (a .bytes .now) (a .at)) 0 0 in
     pushed-queues (a .bytes .now) (a .at) (a .mode) _ (s .pre .0) (s .pre .1) _ (c .before .mark-of2 .ensures) _ _
-    (sequence-is k (a .mode) (a .kind) (a .key) Release _ (c .before .before .before .bytes-in .ensures)) (c .push .ensures)
+    (sequence-is k (a .mode) (a .kind) (a .key) Release _ (c .before .before .before .before .bytes-in .ensures)) (c .push .ensures)
 
 pub send-release-spec : {M : Type 1} → statement M
 send-release-spec =
@@ -72,11 +72,13 @@ send-release-spec =
     returns
     sub-if2
     (λ c κs. search needs)  -- shortest-release-requires
+    (λ c. search needs)  -- cast-mark-of
     (λ c κs. search needs)  -- mark-of-requires
     sub-bytes
     element-write-bytes
     returns-2
     (λ c κs. search needs)  -- bytes-in-requires
+    (λ c. search needs)  -- cast-mark-of-2
     (λ c κs. search needs)  -- mark-of-requires-2
     push-requires
     returns-3)

@@ -1,7 +1,7 @@
--- `sending::mark_of` meets its contract: its test is that of the definition. Assumes nothing.
+-- `keys::mark_of` meets its contract: its test is that of the definition. Assumes nothing.
 use borrow.Author.Tests.{eq-eqb, ne-eqb}
-use Rattle.sending.proofs.mark_of.Statement.{statement}
-use Rattle.sending.proofs.mark_of.Tie as tie
+use Rattle.keys.proofs.mark_of.Statement.{statement}
+use Rattle.keys.proofs.mark_of.Tie as tie
 
 returns : tie.Need-returns
 returns c = simp (eq-eqb _ _ (c .if1 .taken))
