@@ -76,12 +76,12 @@ module _ (q : Queue) (t : tidy q ≡ true) (places : length (q .bytes) ≡ 16)
       ∙ copied (waiting q) (s .bytes) (s .length) (omega (arith, count)) (omega arith)
       ∙ ap queueOf (sym (pushed-whole mark (waiting q) (contents s) room))
 
-  -- There is no room, so a byte waits, and the mark is put over the last one.
-  pub pushed-by-marking : 16 < q .length + s .length
-      → queueWith (set (q .bytes) (q .length - 1) mark) (q .length) ≡ queueOf (pushedTo mark (waiting q) (contents s))
-  pushed-by-marking h =
+  -- There is no room, and the mark is put over the last byte that waits.
+  pub pushed-by-marking : (b : List ℕ) → queueWith b (q .length) ≡ queueOf (lastReplaced mark (waiting q)) → 16 < q .length + s .length
+      → queueWith b (q .length) ≡ queueOf (pushedTo mark (waiting q) (contents s))
+  pushed-by-marking b e h =
       let full : hasRoom (waiting q) (length (contents s)) ≡ false = rw (count, count-s) (lt-leb _ _ h) in
-      marked-last q t places mark (omega arith) ∙ ap queueOf (sym (pushed-nothing mark (waiting q) (contents s) full))
+      e ∙ ap queueOf (sym (pushed-nothing mark (waiting q) (contents s) full))
 
 -- Pushed onto an empty queue, a sequence waits alone.
 pub pushed-alone : (q : Queue) (s : Sequence) (mark : ℕ) → q ≡ queueOf [] → s .length ≤ 8 → length (s .bytes) ≡ 8

@@ -5,7 +5,7 @@ ghost use mathlib.Core.Bool.{true};
 ghost use mathlib.Core.List.{[]};
 ghost use Prim.Native.Nat.{_≤_};
 ghost use lib.ListN.{length, drop};
-ghost use Rattle.queue.specs.Queues.{queueWith, waiting, queueOf, tidy, contents, hasRoom, pushedTo};
+ghost use Rattle.queue.specs.Queues.{queueWith, waiting, queueOf, tidy, contents, hasRoom, lastReplaced, pushedTo};
 
 // The first `length` of `bytes` wait, the oldest in front; zeros stand behind them.
 pub struct Queue {
@@ -45,6 +45,14 @@ pub fn fits(queue: Queue, sequence: Sequence) -> bool
     queue.length + sequence.length <= 16
 }
 
+// The last of the bytes that wait is replaced by the mark. Of these bytes the first `at` wait, and one at least.
+pub fn mark_last(bytes: &mut [u8; 16], at: usize, mark: u8)
+    requires { ⌜ (tidy (queueWith (now bytes) at) ≡ true) × (length (now bytes) ≡ 16) × (1 ≤ at) ⌝ }
+    ensures { λ r. ⌜ queueWith (now (bytes .exit)) at ≡ queueOf (lastReplaced mark (waiting (queueWith (now (bytes .entry)) at))) ⌝ }
+{
+    bytes[at - 1] = mark;
+}
+
 // The queue with a sequence behind its bytes, or with its last byte replaced by the mark.
 pub fn pushed(queue: Queue, sequence: Sequence, mark: u8) -> Queue
     requires { ⌜ (tidy queue ≡ true) × (sequence .length ≤ 8) ⌝ }
@@ -54,7 +62,7 @@ pub fn pushed(queue: Queue, sequence: Sequence, mark: u8) -> Queue
     let n = sequence.length;
     let mut after = queue;
     if 16 - at < n {
-        after.bytes[at - 1] = mark;
+        mark_last(&mut after.bytes, at, mark);
         return after;
     }
     let mut i: usize = 0;

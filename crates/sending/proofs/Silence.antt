@@ -6,7 +6,7 @@ use Prim.Native.Nat.{ℕ, _+_, _-_, _≤_, _<_}
 use native.Mathlib.Omega.{arith}
 use borrow.Author.Tests.{lt-leb, eq-eqb, ne-eqb, eqb-false}
 use lib.Dec.{eqb}
-use lib.ListN.{length, length-append, set as put}
+use lib.ListN.{length, length-append}
 use Rattle.basics.specs.Choice.{pick, both, either}
 use Rattle.basics.proofs.Cases.{picked, never, two-by-cases}
 use Rattle.codes.specs.declared.Action.the-variants.{Press, Release}
@@ -17,7 +17,6 @@ use Rattle.queue.specs.declared.Queue.{Queue}
 use Rattle.queue.specs.Queues.{queueWith, waiting, queueOf, lastReplaced, tidy, contents, pushedTo}
 use Rattle.queue.proofs.Meaning.{length-waiting, tidy-short, tidy-is}
 use Rattle.queue.proofs.Room.{pushed-none, pushed-nothing}
-use Rattle.queue.proofs.Pushing.{marked-last}
 use Rattle.record.specs.declared.Mode.{Mode}
 use Rattle.sending.specs.Sending.{queuedOf, shortestRelease}
 
@@ -86,6 +85,10 @@ little-room set at n e h = go (eqb set 1) e
 pub too-long : (set at n count : ℕ) → n ≡ shortestRelease set → shortestRelease set ≤ count → 16 - at < n → 16 < at + count
 too-long set at n count e h l = omega arith
 
+-- In a full queue nothing has room.
+pub past-full : (at count : ℕ) → at ≡ 16 → 1 ≤ count → 16 < at + count
+past-full at count e h = omega arith
+
 -- Which releases are silent: in set 3 the type says, else it is that of PAUSE.
 pub silent-by-type : (set key type : ℕ) → set ≡ 3
     → both (not (eqb type makeBreak)) (not (eqb type typematicMakeBreak)) ≡ either (pausesAtOnce set key) (not (sendsRelease set type))
@@ -121,22 +124,18 @@ module _ (b : List ℕ) (at : ℕ) (m : Mode) (bytes : List ℕ) (t : tidy (queu
       let short : length (waiting q) ≤ 16 = omega (arith, length-waiting q t places, tidy-short q t) in
       tidy-is q places t ∙ ap queueOf (sym (pushed-none (markOf (m .set)) (waiting q) short) ∙ ap (pushedTo (markOf (m .set)) (waiting q)) (sym e))
 
-  -- There is no room, and the mark takes the place of the last byte.
-  module _ (mark : ℕ) (mark-is : mark ≡ markOf (m .set)) where
-    pub no-room-marks : 1 ≤ at → 16 < at + length bytes → queueWith (put b (at - 1) mark) at ≡ queuedOf (queueWith b at) m bytes
+  module _ (mark : ℕ) (mark-is : mark ≡ markOf (m .set)) (after : Queue) where
+    -- There is no room, and the mark takes the place of the last byte.
+    pub no-room-marks : after ≡ queueOf (lastReplaced mark (waiting (queueWith b at))) → 16 < at + length bytes → after ≡ queuedOf (queueWith b at) m bytes
     unfolding queuedOf
-    no-room-marks some full =
+    no-room-marks e full =
         let q = queueWith b at in
         let count : length (waiting q) ≡ at = length-waiting q t places in
         let none = pushed-nothing (markOf (m .set)) (waiting q) bytes (lt-leb (length (waiting q) + length bytes) 16 (omega (arith, count))) in
-        marked-last q t places mark some ∙ ap (λ (x : ℕ). queueOf (lastReplaced x (waiting q))) mark-is ∙ ap queueOf (sym none)
-
-    pub full-marks : at ≡ 16 → 1 ≤ length bytes → queueWith (put b 15 mark) 16 ≡ queuedOf (queueWith b at) m bytes
-    full-marks full some =
-        ap (λ (n : ℕ). queueWith (put b (n - 1) mark) n) (sym full) ∙ no-room-marks (omega arith) (omega arith)
+        e ∙ ap (λ (x : ℕ). queueOf (lastReplaced x (waiting q))) mark-is ∙ ap queueOf (sym none)
 
     -- The bytes are pushed.
-    pub pushed-queues : (after : Queue) (s : Sequence) → contents s ≡ bytes
+    pub pushed-queues : (s : Sequence) → contents s ≡ bytes
         → after ≡ queueOf (pushedTo mark (waiting (queueWith b at)) (contents s)) → after ≡ queuedOf (queueWith b at) m bytes
     unfolding queuedOf
-    pushed-queues after s c e = rw (← c, ← mark-is) e
+    pushed-queues s c e = rw (← c, ← mark-is) e

@@ -149,8 +149,8 @@ pub fn send_press(
         ≡ queuedOf (queueWith (now (bytes .entry)) at) mode (sendsWith (now (held .entry)) mode kind key Press) ⌝ }
 {
     if at == 16 {
-        bytes[15] = mark_of(mode.set as u32);
-        return 16;
+        queue::mark_last(bytes, at, mark_of(mode.set as u32));
+        return at;
     }
     let sequence = bytes_in(held, table, mode, kind, key, Action::Press);
     queue::push(bytes, at, sequence, mark_of(mode.set as u32))
@@ -174,7 +174,7 @@ pub fn send_release(
         return at;
     }
     if 16 - at < shortest_release(mode.set) {
-        bytes[at - 1] = mark_of(mode.set as u32);
+        queue::mark_last(bytes, at, mark_of(mode.set as u32));
         return at;
     }
     let sequence = bytes_in(held, table, mode, kind, key, Action::Release);

@@ -20,21 +20,22 @@ abbrev μ-loop : tie.MeasureT-loop
 sub-if1 : tie.Need-sub-if1 Inv-loop μ-loop
 sub-if1 c = omega (arith, tidy-short _ (c .pre .0))
 
-element-write-after : tie.Need-element-write-after Inv-loop μ-loop
-element-write-after c = omega (arith, tidy-short _ (c .before .pre .0))
+mark-last-requires : tie.Need-mark-last-requires Inv-loop μ-loop
+mark-last-requires c κs = (c .before .before .pre .0, search needs, omega arith)
 
 returns : tie.Need-returns Inv-loop μ-loop
 returns c =
-    let a = c .before .args in
+    let start = c .before .before .before in
+    let a = start .args in
     let places : length (a .queue .bytes) ≡ 16 = search needs in
     let places-s : length (a .t2 .bytes) ≡ 8 = search needs in
-    pushed-by-marking (a .queue) (c .before .pre .0) places (a .t2) (c .before .pre .1) places-s (a .mark) (omega arith)
+    pushed-by-marking (a .queue) (start .pre .0) places (a .t2) (start .pre .1) places-s (a .mark) _ (c .mark-last .ensures) (omega arith)
 
 loop-holds : tie.Need-loop-holds Inv-loop μ-loop
 loop-holds c = (omega arith, paste-zero (c .before .args .queue .bytes) (c .before .args .queue .length) (c .before .args .t2 .bytes))
 
-element-write-after-2 : tie.Need-element-write-after-2 Inv-loop μ-loop
-element-write-after-2 c = omega (arith, tidy-short _ (c .before .before .before .before .pre .0))
+element-write-after : tie.Need-element-write-after Inv-loop μ-loop
+element-write-after c = omega (arith, tidy-short _ (c .before .before .before .before .pre .0))
 
 loop-again : tie.Need-loop-again Inv-loop μ-loop
 loop-again c =
@@ -65,13 +66,12 @@ pushed-spec =
     Inv-loop
     μ-loop
     sub-if1
-    (λ c. omega arith)  -- sub-after
-    element-write-after
+    mark-last-requires
     returns
     loop-holds
     (λ c. omega arith)  -- element-copy-out-after
     (λ c. omega arith)  -- add-after
-    element-write-after-2
+    element-write-after
     (λ c. omega arith)  -- add-i
     (λ c. omega arith)  -- loop-less
     loop-again

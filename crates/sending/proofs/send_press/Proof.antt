@@ -1,4 +1,5 @@
 -- `sending::send_press` meets its contract: a full queue takes the mark, and any other is asked whether the bytes fit. Assumes nothing.
+use native.Mathlib.Omega.{arith}
 use borrow.Author.Needs.{needs}
 use Rattle.codes.specs.declared.Action.the-variants.{Press}
 use Rattle.queue.specs.Queues.{queueWith}
@@ -6,16 +7,22 @@ use Rattle.record.specs.Views.{keys}
 use Rattle.record.specs.Held.{modifiersOf}
 use Rattle.sending.specs.Sending.{numLock, sends}
 use Rattle.sending.proofs.Sent.{sequence-short, sequence-is}
-use Rattle.sending.proofs.Silence.{press-some, full-marks, pushed-queues}
+use Rattle.sending.proofs.Silence.{press-some, past-full, no-room-marks, pushed-queues}
 use Rattle.sending.proofs.send_press.Statement.{statement}
 use Rattle.sending.proofs.send_press.Tie as tie
 
+mark-last-requires : tie.Need-mark-last-requires
+mark-last-requires c κs =
+    let s = c .before .before .before .before in
+    (s .pre .0, s .pre .1, omega arith)
+
 returns : tie.Need-returns
 returns c =
-    let s = c .before .before .before in
+    let t = c .before .before .before .before in
+    let s = t .before in
     let a = s .args in
-    full-marks (a .bytes .now) (a .at) (a .mode) _ (s .pre .0) (s .pre .1) _ (c .mark-of .ensures) (c .before .before .if1 .taken)
-    (press-some (a .mode .set) (a .key) (a .kind) (modifiersOf (a .held .now)) (numLock (a .mode .indicators)))
+    no-room-marks (a .bytes .now) (a .at) (a .mode) _ (s .pre .0) (s .pre .1) _ (c .before .mark-of .ensures) _ (c .mark-last .ensures)
+    (past-full _ _ (t .if1 .taken) (press-some (a .mode .set) (a .key) (a .kind) (modifiersOf (a .held .now)) (numLock (a .mode .indicators))))
 
 push-requires : tie.Need-push-requires
 unfolding sends
@@ -40,7 +47,7 @@ send-press-spec =
     (tie.spec
     (λ c. search needs)  -- cast-mark-of
     (λ c κs. search needs)  -- mark-of-requires
-    (λ c. search needs)  -- element-write-bytes
+    mark-last-requires
     returns
     (λ c κs. search needs)  -- bytes-in-requires
     (λ c. search needs)  -- cast-mark-of-2

@@ -1,6 +1,5 @@
 -- `sending::send_release` meets its contract: a silent release sends nothing, one for which even the shortest has no room takes the
 -- mark, and any other is asked whether its bytes fit. Assumes nothing.
-use native.Mathlib.Omega.{arith}
 use borrow.Author.Needs.{needs}
 use Rattle.codes.specs.declared.Action.the-variants.{Release}
 use Rattle.queue.specs.Queues.{queueWith}
@@ -27,25 +26,22 @@ returns c =
 sub-if2 : tie.Need-sub-if2
 sub-if2 c = tidy-short _ (c .before .before .pre .0)
 
-sub-bytes : tie.Need-sub-bytes
-sub-bytes c =
-    let t = c .before .before in
-    let a = t .before .before .before .before .args in
-    little-room (a .mode .set) _ _ (t .before .shortest-release .ensures) (t .if2 .taken)
-
-element-write-bytes : tie.Need-element-write-bytes
-element-write-bytes c = omega (arith, tidy-short _ (c .before .before .before .before .before .before .pre .0))
+mark-last-requires : tie.Need-mark-last-requires
+mark-last-requires c κs =
+    let t = c .before .before .before in
+    let s = t .before .before .before .before in
+    (s .pre .0, s .pre .1, little-room (s .args .mode .set) _ _ (t .before .shortest-release .ensures) (t .if2 .taken))
 
 returns-2 : tie.Need-returns-2
 returns-2 c =
-    let t = c .before .before in
+    let t = c .before .before .before .before in
     let e = t .before .before in
     let s = e .before .before in
     let a = s .args in
     let least = t .before .shortest-release .ensures in
     let long = release-long (a .mode .set) (a .key) (a .kind) (modifiersOf (a .held .now)) (numLock (a .mode .indicators)) _ (e .before .is-silent .ensures) (e .if1 .left) in
-    no-room-marks (a .bytes .now) (a .at) (a .mode) _ (s .pre .0) (s .pre .1) _ (c .mark-of .ensures)
-    (little-room (a .mode .set) _ _ least (t .if2 .taken)) (too-long (a .mode .set) _ _ _ least long (t .if2 .taken))
+    no-room-marks (a .bytes .now) (a .at) (a .mode) _ (s .pre .0) (s .pre .1) _ (c .before .mark-of .ensures) _ (c .mark-last .ensures)
+    (too-long (a .mode .set) _ _ _ least long (t .if2 .taken))
 
 push-requires : tie.Need-push-requires
 unfolding sends
@@ -74,8 +70,7 @@ send-release-spec =
     (λ c κs. search needs)  -- shortest-release-requires
     (λ c. search needs)  -- cast-mark-of
     (λ c κs. search needs)  -- mark-of-requires
-    sub-bytes
-    element-write-bytes
+    mark-last-requires
     returns-2
     (λ c κs. search needs)  -- bytes-in-requires
     (λ c. search needs)  -- cast-mark-of-2
