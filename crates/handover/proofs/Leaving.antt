@@ -5,7 +5,8 @@ use mathlib.Core.List.{List}
 use Prim.Native.Nat.{ℕ, suc, _+_, _-_, _≤_, _<_}
 use native.Mathlib.Numerals.{add-one}
 use native.Mathlib.Omega.{arith}
-use borrow.Author.Tests.{eq-eqb, ne-eqb}
+use borrow.Author.Tests.{not-true, not-false}
+use lib.Dec.{eqb}
 use lib.ListN.{getD}
 use Rattle.keys.specs.Keys.{lastKey}
 use Rattle.codes.specs.declared.Action.the-variants.{Release}
@@ -14,6 +15,7 @@ use Rattle.codes.specs.Sequences.{holding}
 use Rattle.queue.specs.Queues.{waiting, contents, hasRoom}
 use Rattle.record.specs.declared.Mode.{Mode}
 use Rattle.record.specs.Views.{Keys}
+use Rattle.record.specs.Held.{isHeld}
 use Rattle.range.specs.Range.{goodKeys}
 use Rattle.sending.specs.Sending.{sends}
 use Rattle.sending.proofs.Sent.{sequence-length}
@@ -27,19 +29,19 @@ handed k unfinished = record { keys = k; unfinished = unfinished }
 
 -- One key: it is not held, or its release fits, or it has to wait.
 module _ (m : Mode) (types : List ℕ) (n key : ℕ) (k : Keys) where
-  key-passed : getD (k .held) key 0 ≡ 0 → handedFrom (suc n) key k m types ≡ handedFrom n (suc key) k m types
+  key-passed : isHeld k key ≡ false → handedFrom (suc n) key k m types ≡ handedFrom n (suc key) k m types
   unfolding handedFrom
-  key-passed z = rw (eq-eqb (getD (k .held) key 0) 0 z)
+  key-passed z = rw (not-false (eqb (getD (k .held) key 0) 0) z)
 
-  module _ (h : getD (k .held) key 0 ≡ 0 → ⊥) where
+  module _ (h : isHeld k key ≡ true) where
     key-leaves : canLeave k m types key ≡ true
         → handedFrom (suc n) key k m types ≡ handedFrom n (suc key) (released k m (getD types key 0) key) m types
     unfolding handedFrom
-    key-leaves t = simp (ne-eqb (getD (k .held) key 0) 0 h, t)
+    key-leaves t = simp (not-true (eqb (getD (k .held) key 0) 0) h, t)
 
     key-waits : canLeave k m types key ≡ false → handedFrom (suc n) key k m types ≡ handed k true
     unfolding handedFrom
-    key-waits f = simp (ne-eqb (getD (k .held) key 0) 0 h, f)
+    key-waits f = simp (not-true (eqb (getD (k .held) key 0) 0) h, f)
 
 module _ (m : Mode) (types : List ℕ) (all : Keys) where
   -- The keys below `key` are done with, and those from it on are still to come.
@@ -69,10 +71,10 @@ module _ (m : Mode) (types : List ℕ) (all : Keys) where
           let less : suc lastKey - (key + 1) ≡ lastKey - key = omega arith in
           rw (less, add-one) (sym step ∙ here)
 
-      pub passes : (e : Keys) → getD (k .held) key 0 ≡ 0 → e ≡ k → Going (key + 1) e
+      pub passes : (e : Keys) → isHeld k key ≡ false → e ≡ k → Going (key + 1) e
       passes e z f = rw f (record { good = going .good; rest = next k (key-passed m types (lastKey - key) key k z) })
 
-      module _ (n : getD (k .held) key 0 ≡ 0 → ⊥) (s : Sequence) (b : Bool)
+      module _ (n : isHeld k key ≡ true) (s : Sequence) (b : Bool)
           (i : s ≡ holding (sends k m (getD types key 0) key Release)) (j : b ≡ hasRoom (waiting (k .queue)) (s .length)) where
         can : b ≡ canLeave k m types key
         can = j ∙ ap (hasRoom (waiting (k .queue))) (sequence-length k m (getD types key 0) key Release s i)

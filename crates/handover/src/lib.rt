@@ -7,6 +7,8 @@ use record::Held;
 use record::Mode;
 use record::Outgoing;
 use record::Types;
+use record::held::is_held;
+use record::held::key_up;
 use sending::bytes_of;
 use sending::queued;
 ghost use mathlib.Core.Path.{_≡_};
@@ -25,7 +27,7 @@ fn let_go(held: &mut Held, outgoing: Outgoing, key: u8, queue: Queue) -> Outgoin
 {
     let mut after = outgoing;
     after.queue = queue;
-    held[key as usize] = 0;
+    key_up(held, key);
     if outgoing.repeating == key {
         after.repeating = 0;
         after.countdown = 0;
@@ -57,7 +59,7 @@ pub fn hand_over(held: &mut Held, outgoing: Outgoing, mode: Mode, types: &Types)
     let mut after = outgoing;
     let mut key: u8 = 1;
     while key <= keys::LAST_KEY {
-        if held[key as usize] != 0 {
+        if is_held(held, key) {
             let sequence = bytes_of(held, mode, types[key as usize], key, Action::Release);
             let queue = after.queue;
             if !queue::fits(queue, sequence) {

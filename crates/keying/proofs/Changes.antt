@@ -4,7 +4,6 @@ use mathlib.Core.Bool.{Bool, true, false}
 use mathlib.Core.List.{List}
 use Prim.Native.Nat.{ℕ}
 use borrow.Author.Tests.{eq-eqb, ne-eqb}
-use lib.ListN.{set}
 use Rattle.codes.specs.declared.Action.the-variants.{Press, Release}
 use Rattle.codes.specs.declared.Sequence.{Sequence}
 use Rattle.codes.specs.Codes.{mayRepeat}
@@ -13,6 +12,7 @@ use Rattle.queue.specs.declared.Queue.{Queue}
 use Rattle.queue.specs.Queues.{contents}
 use Rattle.record.specs.declared.Mode.{Mode}
 use Rattle.record.specs.Views.{keys, Keys}
+use Rattle.record.specs.Held.{keyDown, keyUp}
 use Rattle.sending.specs.Sending.{sends, queuedOf}
 use Rattle.sending.proofs.Sent.{sequence-is}
 use Rattle.keying.specs.declared.OutgoingRest.{OutgoingRest}
@@ -28,21 +28,21 @@ module _ (k : Keys) (m : Mode) (type key : ℕ) where
   unfolding released
   released-by-its-bytes s e = ap (releasedWith k m key) (sequence-is k m type key Release s e)
 
-  module _ (q : Queue) (queue-is : q ≡ queuedOf (k .queue) m (sends k m type key Press))
+  module _ (held : List ℕ) (held-is : held ≡ keyDown (k .held) key) (q : Queue) (queue-is : q ≡ queuedOf (k .queue) m (sends k m type key Press))
       (may : Bool) (t : may ≡ mayRepeat (m .set) key type) where
-    pub pressed-to-repeat : may ≡ true → (delay : ℕ) → delay ≡ delayOf (m .rate) → keys (set (k .held) key 1) q key delay ≡ pressed k m type key
+    pub pressed-to-repeat : may ≡ true → (delay : ℕ) → delay ≡ delayOf (m .rate) → keys held q key delay ≡ pressed k m type key
     unfolding pressed
-    pressed-to-repeat y delay d = simp (sym t, y, d, queue-is)
+    pressed-to-repeat y delay d = simp (sym t, y, d, held-is, queue-is)
 
-    pub pressed-once : may ≡ false → keys (set (k .held) key 1) q 0 0 ≡ pressed k m type key
+    pub pressed-once : may ≡ false → keys held q 0 0 ≡ pressed k m type key
     unfolding pressed
-    pressed-once n = simp (sym t, n, queue-is)
+    pressed-once n = simp (sym t, n, held-is, queue-is)
 
-  module _ (q : Queue) (queue-is : q ≡ queuedOf (k .queue) m (sends k m type key Release)) where
-    pub released-repeats : k .repeating ≡ key → keys (set (k .held) key 0) q 0 0 ≡ released k m type key
+  module _ (held : List ℕ) (held-is : held ≡ keyUp (k .held) key) (q : Queue) (queue-is : q ≡ queuedOf (k .queue) m (sends k m type key Release)) where
+    pub released-repeats : k .repeating ≡ key → keys held q 0 0 ≡ released k m type key
     unfolding released releasedWith
-    released-repeats e = simp (eq-eqb _ _ e, queue-is)
+    released-repeats e = simp (eq-eqb _ _ e, held-is, queue-is)
 
-    pub released-only : (k .repeating ≡ key → ⊥) → keys (set (k .held) key 0) q (k .repeating) (k .countdown) ≡ released k m type key
+    pub released-only : (k .repeating ≡ key → ⊥) → keys held q (k .repeating) (k .countdown) ≡ released k m type key
     unfolding released releasedWith
-    released-only n = simp (ne-eqb _ _ n, queue-is)
+    released-only n = simp (ne-eqb _ _ n, held-is, queue-is)

@@ -2,7 +2,7 @@
 use Prim.Native.Nat.{ℕ, zero, suc, _+_, _*_}
 use mathlib.Core.List.{List}
 use lib.Dec.{eqb}
-use lib.ListN.{getD, set}
+use lib.ListN.{getD}
 use Rattle.basics.specs.Choice.{pick}
 use Rattle.codes.specs.declared.Action.the-variants.{Press, Release}
 use Rattle.codes.specs.Codes.{mayRepeat}
@@ -11,6 +11,7 @@ use Rattle.queue.specs.declared.Queue.{Queue}
 use Rattle.queue.specs.Queues.{queueWith}
 use Rattle.record.specs.declared.Mode.{Mode}
 use Rattle.record.specs.Views.{keys, Keys}
+use Rattle.record.specs.Held.{keyDown, keyUp}
 use Rattle.sending.specs.Sending.{sends, queuedOf}
 use Rattle.keying.specs.declared.OutgoingRest.{OutgoingRest}
 use Rattle.keying.specs.Repeat.{delayOf}
@@ -23,13 +24,13 @@ keysFrom held bytes rest = keys held (queueWith bytes (rest .length)) (rest .rep
 unfoldable pub pressed : Keys → Mode → ℕ → ℕ → Keys
 pressed k m type key =
     let repeats = mayRepeat (m .set) key type in
-    keys (set (k .held) key 1) (queuedOf (k .queue) m (sends k m type key Press)) (pick repeats key 0) (pick repeats (delayOf (m .rate)) 0)
+    keys (keyDown (k .held) key) (queuedOf (k .queue) m (sends k m type key Press)) (pick repeats key 0) (pick repeats (delayOf (m .rate)) 0)
 
 -- A key is let go, and this is the queue then: it is not held any more, and if it was the one that repeats, none does.
 abbrev pub letGo : Keys → ℕ → Queue → Keys
 letGo k key queue =
     let stops = eqb (k .repeating) key in
-    keys (set (k .held) key 0) queue (pick stops 0 (k .repeating)) (pick stops 0 (k .countdown))
+    keys (keyUp (k .held) key) queue (pick stops 0 (k .repeating)) (pick stops 0 (k .countdown))
 
 -- A key is released, and these bytes say so: they are queued.
 unfoldable pub releasedWith : Keys → Mode → ℕ → List ℕ → Keys

@@ -9,6 +9,8 @@ use record::Map;
 use record::Mode;
 use record::Outgoing;
 use record::Types;
+use record::held::key_down;
+use record::held::key_up;
 use sending::send_press;
 use sending::send_release;
 ghost use mathlib.Core.Path.{_≡_};
@@ -38,7 +40,7 @@ fn press(
 {
     let mut after = rest;
     after.length = send_press(held, bytes, rest.length as usize, table, mode, kind, key) as u8;
-    held[key as usize] = 1;
+    key_down(held, key);
     if codes::rows::may_repeat(mode.set, key, kind) {
         after.repeating = key;
         after.countdown = delay_of(mode.rate);
@@ -66,7 +68,7 @@ fn release(
 {
     let mut after = rest;
     after.length = send_release(held, bytes, rest.length as usize, table, mode, kind, key) as u8;
-    held[key as usize] = 0;
+    key_up(held, key);
     if rest.repeating == key {
         after.repeating = 0;
         after.countdown = 0;

@@ -3,15 +3,26 @@ use Prim.Native.Nat.{ℕ, zero, suc, _+_, _*_}
 use mathlib.Core.Bool.{Bool, not}
 use mathlib.Core.List.{List}
 use lib.Dec.{eqb}
-use lib.ListN.{getD}
+use lib.ListN.{getD, set}
 use Rattle.basics.specs.Choice.{pick}
 use Rattle.keys.specs.Keys.{lastKey}
 use Rattle.keys.specs.Named.{shiftL, shiftR, ctrlL, ctrlR, altL, altR}
 use Rattle.record.specs.Views.{Keys}
 
--- A key is held.
+-- A key is held, by the flags,
+abbrev pub heldAt : List ℕ → ℕ → Bool
+heldAt held key = not (eqb (getD held key 0) 0)
+
+-- and by the keys of the record.
 abbrev pub isHeld : Keys → ℕ → Bool
-isHeld k key = not (eqb (getD (k .held) key 0) 0)
+isHeld k key = heldAt (k .held) key
+
+-- The flags with a key held, and with a key not held any more.
+abbrev pub keyDown : List ℕ → ℕ → List ℕ
+keyDown held key = set held key 1
+
+abbrev pub keyUp : List ℕ → ℕ → List ℕ
+keyUp held key = set held key 0
 
 -- A flag that is not 0 counts 1.
 abbrev pub flagOf : ℕ → ℕ

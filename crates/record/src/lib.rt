@@ -6,6 +6,7 @@ use queue::Queue;
 use replies::Replies;
 
 pub mod power; // power.rt: the record at power-on
+pub mod held; // held.rt: the flags of the held keys
 
 // A key, or 0, for each position of a panel.
 pub type Map = [u8; 144];

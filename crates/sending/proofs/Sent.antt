@@ -1,8 +1,10 @@
 -- What a key sends: at most 8 bytes, and a sequence that holds them has them as its contents. Assumes nothing.
-use mathlib.Core.Path.{_≡_, refl, ap, _∙_}
+use mathlib.Core.Path.{_≡_, refl, sym, ap, _∙_}
+use mathlib.Core.Bool.{Bool, true, false}
 use mathlib.Core.List.{List}
 use Prim.Native.Nat.{ℕ, _+_, _*_, _≤_}
 use native.Mathlib.Omega.{arith}
+use borrow.Author.Tests.{not-true, not-false}
 use lib.Dec.{eqb}
 use lib.ListN.{getD, length}
 use Rattle.basics.proofs.Cases.{picked}
@@ -15,7 +17,7 @@ use Rattle.queue.specs.Queues.{contents}
 use Rattle.queue.proofs.Meaning.{contents-holding}
 use Rattle.record.specs.declared.Mode.{Mode}
 use Rattle.record.specs.Views.{Keys}
-use Rattle.record.specs.Held.{flagOf, modifiersOf}
+use Rattle.record.specs.Held.{heldAt, flagOf, modifiersOf}
 use Rattle.sending.specs.Sending.{numLock, sends}
 
 module _ (k : Keys) (m : Mode) (type key : ℕ) (action : Action) where
@@ -32,6 +34,14 @@ module _ (k : Keys) (m : Mode) (type key : ℕ) (action : Action) where
 
     pub sequence-length : s .length ≡ length (sends k m type key action)
     sequence-length = rw (e, holding-length (sends k m type key action))
+
+-- A key that is held counts 1, and any other 0.
+module _ (held : List ℕ) (key : ℕ) (is : Bool) (e : is ≡ heldAt held key) where
+  pub flag-held : is ≡ true → 1 ≡ flagOf (getD held key 0)
+  flag-held t = rw (not-true (eqb (getD held key 0) 0) (sym e ∙ t))
+
+  pub flag-free : is ≡ false → 0 ≡ flagOf (getD held key 0)
+  flag-free f = rw (not-false (eqb (getD held key 0) 0) (sym e ∙ f))
 
 -- A flag counts at most 1,
 pub flag-small : (x r : ℕ) → r ≡ flagOf x → r ≤ 1

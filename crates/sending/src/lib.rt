@@ -6,10 +6,11 @@ use keys::mark_of;
 use queue::Queue;
 use record::Held;
 use record::Mode;
+use record::held::is_held;
 ghost use mathlib.Core.Path.{_≡_};
 ghost use mathlib.Core.Bool.{true, not};
-ghost use Prim.Native.Nat.{_+_, _*_, _≤_};
-ghost use lib.ListN.{length};
+ghost use Prim.Native.Nat.{_+_, _*_, _≤_, _<_};
+ghost use lib.ListN.{length, getD};
 ghost use Rattle.basics.specs.Choice.{either};
 ghost use Rattle.codes.specs.declared.Action.the-variants.{Press, Release};
 ghost use Rattle.codes.specs.Codes.{pausesAtOnce, sendsRelease};
@@ -20,43 +21,32 @@ ghost use Rattle.range.specs.Range.{goodMode};
 ghost use Rattle.record.specs.Held.{flagOf, modifiersOf};
 ghost use Rattle.sending.specs.Sending.{numLock, sendsWith, queuedOf, shortestRelease};
 
-// A flag that is up counts 1.
-fn flag(x: u8) -> u8
-    ensures { λ r. ⌜ r ≡ flagOf x ⌝ }
+// A key that is held counts 1.
+fn flag(held: &Held, key: u8) -> u8
+    requires { ⌜ key < 144 ⌝ }
+    ensures { λ r. ⌜ r ≡ flagOf (getD (now (held .entry)) key 0) ⌝ }
 {
-    if x == 0 {
-        return 0;
+    if is_held(held, key) {
+        return 1;
     }
-    1
+    0
 }
 
-// Two flags as the two bits of a number.
-fn pair(low: u8, high: u8) -> u8
-    ensures { λ r. ⌜ r ≡ flagOf low + 2 * flagOf high ⌝ }
+// Two keys as the two bits of a number.
+fn pair(held: &Held, low: u8, high: u8) -> u8
+    requires { ⌜ (low < 144) × (high < 144) ⌝ }
+    ensures { λ r. ⌜ r ≡ flagOf (getD (now (held .entry)) low 0) + 2 * flagOf (getD (now (held .entry)) high 0) ⌝ }
 {
-    flag(low) + 2 * flag(high)
+    flag(held, low) + 2 * flag(held, high)
 }
-
-// The flags of the modifier keys.
-const SHIFT_L: usize = keys::SHIFT_L as usize;
-
-const SHIFT_R: usize = keys::SHIFT_R as usize;
-
-const CTRL_L: usize = keys::CTRL_L as usize;
-
-const CTRL_R: usize = keys::CTRL_R as usize;
-
-const ALT_L: usize = keys::ALT_L as usize;
-
-const ALT_R: usize = keys::ALT_R as usize;
 
 // The modifier keys among the held ones: SHIFT, CTRL and ALT, the left one the lower bit of each pair.
 fn modifiers_of(held: &Held) -> u8
     ensures { λ r. ⌜ r ≡ modifiersOf (now (held .entry)) ⌝ }
 {
-    let shift = pair(held[SHIFT_L], held[SHIFT_R]);
-    let ctrl = pair(held[CTRL_L], held[CTRL_R]);
-    let alt = pair(held[ALT_L], held[ALT_R]);
+    let shift = pair(held, keys::SHIFT_L, keys::SHIFT_R);
+    let ctrl = pair(held, keys::CTRL_L, keys::CTRL_R);
+    let alt = pair(held, keys::ALT_L, keys::ALT_R);
     shift + 4 * ctrl + 16 * alt
 }
 

@@ -1,6 +1,6 @@
 -- `handover::hand_over` meets its contract. The loop's invariant: key is at most 105, and what is left of the handover is the
 -- same handover of the keys as they are, from that key on. The measure is what is left of the keys. Assumes nothing.
-use mathlib.Core.Path.{ap₂, _∙_}
+use mathlib.Core.Path.{sym, ap₂, _∙_}
 use mathlib.Core.Logic.{⊎-elim}
 use Prim.Native.Nat.{suc, _+_, _-_, _≤_}
 use native.Mathlib.Omega.{arith}
@@ -29,7 +29,7 @@ loop-holds c = (omega arith, begins _ _ (keysWith (c .args .held .now) (c .args 
 fits-requires : tie.Need-fits-requires Inv-loop μ-loop
 unfolding sends
 fits-requires c κs =
-    let l = c .before .before .before .before .before .before .before in
+    let l = c .before .before .before .before .before .before .before .before in
     let k = keysWith (l .loop .held) (l .loop .after) in
     (tidy-short _ (good-keys-queue k (l .loop .inv .1 .good)), sequence-short k (l .before .args .mode) _ _ Release _ (c .before .bytes-of .ensures))
 
@@ -39,31 +39,32 @@ returns c =
     let f = c .before in
     let b = f .before .before in
     let i = b .before .before .before in
-    let l = i .before .before .before in
+    let l = i .before .before .before .before in
     let a = l .before .args in
     waits (a .mode) (a .types .now) (keysWith (a .held .now) (a .outgoing)) (l .loop .key) (keysWith (l .loop .held) (l .loop .after)) (l .loop .inv .1)
-    (i .before .before .loop-test .taken) (i .if1 .taken) _ _ (b .bytes-of .ensures) (f .fits2 .ensures) (not-true _ (c .if2 .taken))
+    (i .before .before .before .loop-test .taken) (sym (i .before .is-held .ensures) ∙ i .if1 .taken) _ _ (b .bytes-of .ensures) (f .fits2 .ensures) (not-true _ (c .if2 .taken))
 
 release-with-requires : tie.Need-release-with-requires Inv-loop μ-loop
 unfolding sends
 release-with-requires c κs =
     let b = c .before .before .before .before in
-    let l = b .before .before .before .before .before .before in
+    let l = b .before .before .before .before .before .before .before in
     let k = keysWith (l .loop .held) (l .loop .after) in
     (l .loop .inv .1 .good, omega arith, sequence-short k (l .before .args .mode) _ _ Release _ (b .bytes-of .ensures))
 
 loop-again : tie.Need-loop-again Inv-loop μ-loop
 unfolding sends
 loop-again c =
-    let l = c .before .before .before in
+    let l = c .before .before .before .before in
     let a = l .before .args in
-    let t = c .before .before .loop-test .taken in
+    let t = c .before .before .before .loop-test .taken in
+    let h = sym (c .before .is-held .ensures) in
     let all = keysWith (a .held .now) (a .outgoing) in
     let k = keysWith (l .loop .held) (l .loop .after) in
     let again : Going (a .mode) (a .types .now) all (l .loop .key + 1) (keysWith (c .if1 .held) (c .if1 .after)) = ⊎-elim
-    (λ w. leaves (a .mode) (a .types .now) all (l .loop .key) k (l .loop .inv .1) t (w .0 .taken) _ _ (w .3 .ensures) (w .5 .ensures)
+    (λ w. leaves (a .mode) (a .types .now) all (l .loop .key) k (l .loop .inv .1) t (h ∙ w .0 .taken) _ _ (w .3 .ensures) (w .5 .ensures)
     (not-false _ (w .6 .left)) _ (ap₂ keysWith (w .9) (w .10) ∙ w .8 .ensures))
-    (λ w. passes (a .mode) (a .types .now) all (l .loop .key) k (l .loop .inv .1) t _ (w .0 .left) (ap₂ keysWith (w .1) (w .2)))
+    (λ w. passes (a .mode) (a .types .now) all (l .loop .key) k (l .loop .inv .1) t _ (h ∙ w .0 .left) (ap₂ keysWith (w .1) (w .2)))
     (c .if1 .came) in
     (omega arith, again)
 
@@ -81,8 +82,7 @@ hand-over-spec =
     Inv-loop
     μ-loop
     loop-holds
-    (λ c. omega arith)  -- cast-if1
-    (λ c. omega arith)  -- element-copy-out-if1
+    (λ c κs. omega arith)  -- is-held-requires
     (λ c. omega arith)  -- cast-bytes-of
     (λ c. omega arith)  -- element-copy-out-bytes-of
     (λ c κs. search needs)  -- bytes-of-requires

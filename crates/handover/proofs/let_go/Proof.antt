@@ -5,10 +5,10 @@ use Rattle.handover.proofs.let_go.Statement.{statement}
 use Rattle.handover.proofs.let_go.Tie as tie
 
 returns : tie.Need-returns
-returns c = simp (eq-eqb _ _ (c .if1 .taken))
+returns c = simp (eq-eqb _ _ (c .if1 .taken), c .before .before .key-up .ensures)
 
 returns-2 : tie.Need-returns-2
-returns-2 c = simp (ne-eqb _ _ (c .if1 .left))
+returns-2 c = simp (ne-eqb _ _ (c .if1 .left), c .before .before .key-up .ensures)
 
 pub let-go-spec : {M : Type 1} → statement M
-let-go-spec = tie.close (tie.spec (λ c. search needs) returns returns-2)
+let-go-spec = tie.close (tie.spec (λ c κs. search needs) returns returns-2)

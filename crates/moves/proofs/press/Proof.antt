@@ -26,23 +26,25 @@ cast-after c =
     omega arith
 
 delay-of-requires : tie.Need-delay-of-requires
-delay-of-requires c κs = good-mode-rate _ (c .before .before .before .before .before .before .pre .1)
+delay-of-requires c κs = good-mode-rate _ (c .before .before .before .before .before .before .before .before .pre .1)
 
 returns : tie.Need-returns
 unfolding sends
 returns c =
     let m = c .before .before in
-    let a = m .before .before .before .before .before .args in
-    pressed-to-repeat (keysFrom (a .held .now) (a .bytes .now) (a .rest)) (a .mode) (a .kind) (a .key) _ (m .before .send-press .ensures) _ (m .may-repeat .ensures)
-    (c .before .if1 .taken) _ (c .delay-of .ensures)
+    let s = m .before .before .before in
+    let a = s .before .before .before .before .args in
+    pressed-to-repeat (keysFrom (a .held .now) (a .bytes .now) (a .rest)) (a .mode) (a .kind) (a .key) _ (m .before .key-down .ensures) _ (s .send-press .ensures)
+    _ (m .may-repeat .ensures) (c .before .if1 .taken) _ (c .delay-of .ensures)
 
 returns-2 : tie.Need-returns-2
 unfolding sends
 returns-2 c =
     let m = c .before in
-    let a = m .before .before .before .before .before .args in
-    pressed-once (keysFrom (a .held .now) (a .bytes .now) (a .rest)) (a .mode) (a .kind) (a .key) _ (m .before .send-press .ensures) _ (m .may-repeat .ensures)
-    (c .if1 .left)
+    let s = m .before .before .before in
+    let a = s .before .before .before .before .args in
+    pressed-once (keysFrom (a .held .now) (a .bytes .now) (a .rest)) (a .mode) (a .kind) (a .key) _ (m .before .key-down .ensures) _ (s .send-press .ensures)
+    _ (m .may-repeat .ensures) (c .if1 .left)
 
 pub press-spec : {M : Type 1} → statement M
 press-spec =
@@ -51,7 +53,7 @@ press-spec =
     (λ c. search needs)  -- cast-send-press
     send-press-requires
     cast-after
-    (λ c. search needs)  -- element-write-held
+    (λ c κs. search needs)  -- key-down-requires
     (λ c κs. search needs)  -- may-repeat-requires
     delay-of-requires
     returns

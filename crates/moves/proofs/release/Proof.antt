@@ -28,16 +28,18 @@ cast-after c =
 returns : tie.Need-returns
 unfolding sends
 returns c =
-    let r = c .before .before in
+    let u = c .before .before in
+    let r = u .before .before in
     let a = r .before .before .before .before .args in
-    released-repeats (keysFrom (a .held .now) (a .bytes .now) (a .rest)) (a .mode) (a .kind) (a .key) _ (r .send-release .ensures) (c .if1 .taken)
+    released-repeats (keysFrom (a .held .now) (a .bytes .now) (a .rest)) (a .mode) (a .kind) (a .key) _ (u .key-up .ensures) _ (r .send-release .ensures) (c .if1 .taken)
 
 returns-2 : tie.Need-returns-2
 unfolding sends
 returns-2 c =
-    let r = c .before .before in
+    let u = c .before .before in
+    let r = u .before .before in
     let a = r .before .before .before .before .args in
-    released-only (keysFrom (a .held .now) (a .bytes .now) (a .rest)) (a .mode) (a .kind) (a .key) _ (r .send-release .ensures) (c .if1 .left)
+    released-only (keysFrom (a .held .now) (a .bytes .now) (a .rest)) (a .mode) (a .kind) (a .key) _ (u .key-up .ensures) _ (r .send-release .ensures) (c .if1 .left)
 
 pub release-spec : {M : Type 1} → statement M
-release-spec = tie.close (tie.spec (λ c. search needs) send-release-requires cast-after (λ c. search needs) returns returns-2)
+release-spec = tie.close (tie.spec (λ c. search needs) send-release-requires cast-after (λ c κs. search needs) returns returns-2)

@@ -8,56 +8,44 @@ use Rattle.sending.proofs.modifiers_of.Tie as tie
 
 mul-result : tie.Need-mul-result
 mul-result c =
-    let ctrl = c .before .before .before in
-    let held = ctrl .before .before .before .before .before .before .args .held .now in
-    omega (arith, pair-small (getD held 54 0) (getD held 58 0) _ (ctrl .pair2 .ensures))
+    let held = c .before .before .before .args .held .now in
+    omega (arith, pair-small (getD held 54 0) (getD held 58 0) _ (c .before .pair2 .ensures))
 
 add-result : tie.Need-add-result
 add-result c =
-    let ctrl = c .before .before .before in
-    let shift = ctrl .before .before .before in
-    let held = shift .before .before .before .args .held .now in
+    let held = c .before .before .before .args .held .now in
     omega (
       arith,
-      pair-small (getD held 42 0) (getD held 53 0) _ (shift .pair .ensures),
-      pair-small (getD held 54 0) (getD held 58 0) _ (ctrl .pair2 .ensures),
+      pair-small (getD held 42 0) (getD held 53 0) _ (c .before .before .pair .ensures),
+      pair-small (getD held 54 0) (getD held 58 0) _ (c .before .pair2 .ensures),
     )
 
 mul-result-2 : tie.Need-mul-result-2
 mul-result-2 c =
-    let held = c .before .before .before .before .before .before .before .before .before .args .held .now in
+    let held = c .before .before .before .args .held .now in
     omega (arith, pair-small (getD held 55 0) (getD held 57 0) _ (c .pair3 .ensures))
 
 add-result-2 : tie.Need-add-result-2
 add-result-2 c =
-    let ctrl = c .before .before .before in
-    let shift = ctrl .before .before .before in
-    let held = shift .before .before .before .args .held .now in
+    let held = c .before .before .before .args .held .now in
     omega (
       arith,
-      pair-small (getD held 42 0) (getD held 53 0) _ (shift .pair .ensures),
-      pair-small (getD held 54 0) (getD held 58 0) _ (ctrl .pair2 .ensures),
+      pair-small (getD held 42 0) (getD held 53 0) _ (c .before .before .pair .ensures),
+      pair-small (getD held 54 0) (getD held 58 0) _ (c .before .pair2 .ensures),
       pair-small (getD held 55 0) (getD held 57 0) _ (c .pair3 .ensures),
     )
 
 returns : tie.Need-returns
 returns c =
-    let ctrl = c .before .before .before in
-    let shift = ctrl .before .before .before in
-    three-pairs (shift .before .before .before .args .held .now) _ _ _ (shift .pair .ensures) (ctrl .pair2 .ensures) (c .pair3 .ensures)
+    let b = c .before .before in
+    three-pairs (b .before .args .held .now) _ _ _ (b .pair .ensures) (c .before .pair2 .ensures) (c .pair3 .ensures)
 
 pub modifiers-of-spec : {M : Type 1} → statement M
 modifiers-of-spec =
     tie.close
     (tie.spec
-    (λ c. search needs)  -- element-copy-out-pair
-    (λ c. search needs)  -- element-copy-out-pair-2
     (λ c κs. search needs)  -- pair-requires
-    (λ c. search needs)  -- element-copy-out-pair-3
-    (λ c. search needs)  -- element-copy-out-pair-4
     (λ c κs. search needs)  -- pair-requires-2
-    (λ c. search needs)  -- element-copy-out-pair-5
-    (λ c. search needs)  -- element-copy-out-pair-6
     (λ c κs. search needs)  -- pair-requires-3
     mul-result
     add-result
