@@ -74,7 +74,7 @@ fn change(
 }
 
 // The repeat, after the scan's changes.
-fn repeat(held: &Held, types: &Types, rest: Rest) -> Rest
+fn repeat_when_quiet(held: &Held, types: &Types, rest: Rest) -> Rest
     requires { ⌜ goodRest rest ≡ true ⌝ }
     ensures { λ r. ⌜ HeldAfter repeating held types rest r ⌝ }
 {
@@ -106,7 +106,7 @@ fn hear(
     let mut after = rest;
     after.outgoing = keying::repeating::tick(outgoing);
     let changed = change(map, closed, counts, held, types, after, scan);
-    repeat(held, types, changed)
+    repeat_when_quiet(held, types, changed)
 }
 
 // The scan call in place, of a record in its range.

@@ -112,7 +112,7 @@ fn made(table: &Table, set: u8, key: u8, form: Form, wrapping: Form) -> Sequence
 }
 
 // The bytes of a press, which no type changes.
-fn press(table: &Table, set: u8, key: u8, form: Form) -> Sequence
+fn press_bytes(table: &Table, set: u8, key: u8, form: Form) -> Sequence
     requires { ⌜ now table ≡ laidOut ⌝ }
     ensures { λ r. ⌜ ((kind : ℕ) → r ≡ holding (bytesOf set key Press kind form)) ⌝ }
 {
@@ -123,7 +123,7 @@ fn press(table: &Table, set: u8, key: u8, form: Form) -> Sequence
 }
 
 // The bytes of a release.
-fn release(table: &Table, set: u8, key: u8, kind: u8, form: Form) -> Sequence
+fn release_bytes(table: &Table, set: u8, key: u8, kind: u8, form: Form) -> Sequence
     requires { ⌜ now table ≡ laidOut ⌝ }
     ensures { λ r. ⌜ r ≡ holding (bytesOf set key Release kind form) ⌝ }
 {
@@ -140,7 +140,7 @@ fn release(table: &Table, set: u8, key: u8, kind: u8, form: Form) -> Sequence
 }
 
 // The bytes of a repeat, which is never wrapped.
-fn repeat(table: &Table, set: u8, key: u8, kind: u8, form: Form) -> Sequence
+fn repeat_bytes(table: &Table, set: u8, key: u8, kind: u8, form: Form) -> Sequence
     requires { ⌜ now table ≡ laidOut ⌝ }
     ensures { λ r. ⌜ r ≡ holding (bytesOf set key Repeat kind form) ⌝ }
 {
@@ -165,9 +165,9 @@ pub fn sequence_in(
 {
     let form = form_of(set, key, modifiers, lock);
     match action {
-        Action::Press => press(table, set, key, form),
-        Action::Release => release(table, set, key, kind, form),
-        Action::Repeat => repeat(table, set, key, kind, form),
+        Action::Press => press_bytes(table, set, key, form),
+        Action::Release => release_bytes(table, set, key, kind, form),
+        Action::Repeat => repeat_bytes(table, set, key, kind, form),
     }
 }
 

@@ -18,8 +18,8 @@ change-requires c κs =
     let range = ticked-in-range (dockWith (a .map .now) (a .closed .now) (a .counts .now) (a .held .now) (a .types .now) (a .rest)) (s .pre .0 .range) _ (ap (keysWith (a .held .now)) (tick .tick .ensures)) in
     (record { range = range; closed = s .pre .0 .closed; counts = s .pre .0 .counts }, s .pre .1)
 
-repeat-requires : tie.Need-repeat-requires
-repeat-requires c κs =
+repeat-when-quiet-requires : tie.Need-repeat-when-quiet-requires
+repeat-when-quiet-requires c κs =
     let after = c .before .change in
     let tick = c .before .before .before .before .before in
     let s = tick .before .before .before in
@@ -35,7 +35,7 @@ returns c =
     let d = dockWith (a .map .now) (a .closed .now) (a .counts .now) (a .held .now) (a .types .now) (a .rest) in
     heard-whole d (a .scan .now) _ _
     (after .ensures ∙ ap (λ (k : Keys). changed (withKeys d k) (a .scan .now)) (ap (keysWith (a .held .now)) (tick .tick .ensures)))
-    (c .repeat .ensures (a .map .now) (after .last .1 .0) (after .last .1 .1 .0))
+    (c .repeat-when-quiet .ensures (a .map .now) (after .last .1 .0) (after .last .1 .1 .0))
 
 pub hear-spec : {M : Type 1} → statement M
-hear-spec = tie.close (tie.spec (λ c κs. search needs) change-requires repeat-requires returns)
+hear-spec = tie.close (tie.spec (λ c κs. search needs) change-requires repeat-when-quiet-requires returns)

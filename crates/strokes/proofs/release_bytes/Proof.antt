@@ -1,12 +1,12 @@
--- `strokes::release` meets its contract: nothing, or the break and what the form sends after it, at most 8 bytes together. Assumes nothing.
+-- `strokes::release_bytes` meets its contract: nothing, or the break and what the form sends after it, at most 8 bytes together. Assumes nothing.
 use native.Mathlib.Omega.{arith}
 use Rattle.codes.specs.Codes.{bytesOf}
 use Rattle.codes.proofs.Answers.{passed, refused}
 use Rattle.codes.proofs.Adding.{joined, filled, none-held, room}
 use Rattle.codes.proofs.Lengths.{break-short, release-short}
 use borrow.Author.Needs.{needs}
-use Rattle.strokes.proofs.release.Statement.{statement}
-use Rattle.strokes.proofs.release.Tie as tie
+use Rattle.strokes.proofs.release_bytes.Statement.{statement}
+use Rattle.strokes.proofs.release_bytes.Tie as tie
 
 returns : tie.Need-returns
 unfolding bytesOf
@@ -36,8 +36,8 @@ returns-3 c =
     rw (← d .before .pauses-at-once .ensures, d .if1 .left, passed (b .before .sends-release .ensures) (b .if2 .left))
     (filled _ _ _ (release-short _ _ _) (d .before .before .empty .ensures) (joined _ _ _ _ _ break (c .with-after .ensures)))
 
-pub release-spec : {M : Type 1} → statement M
-release-spec =
+pub release-bytes-spec : {M : Type 1} → statement M
+release-bytes-spec =
     tie.close
     (tie.spec
     (λ c κs. search needs)  -- empty-requires

@@ -1,10 +1,10 @@
--- `strokes::press` meets its contract: PAUSE is written out, any other key sends its make, wrapped by its form. Assumes nothing.
+-- `strokes::press_bytes` meets its contract: PAUSE is written out, any other key sends its make, wrapped by its form. Assumes nothing.
 use mathlib.Core.Path.{sym, _∙_}
 use Rattle.codes.specs.Codes.{bytesOf}
 use Rattle.codes.proofs.AtOnce.{at-once-range}
 use borrow.Author.Needs.{needs}
-use Rattle.strokes.proofs.press.Statement.{statement}
-use Rattle.strokes.proofs.press.Tie as tie
+use Rattle.strokes.proofs.press_bytes.Statement.{statement}
+use Rattle.strokes.proofs.press_bytes.Tie as tie
 
 pause-requires : tie.Need-pause-requires
 pause-requires c κs =
@@ -19,5 +19,5 @@ returns-2 : tie.Need-returns-2
 unfolding bytesOf
 returns-2 c = λ kind. rw (← c .before .before .pauses-at-once .ensures, c .before .if1 .left) (c .made .ensures)
 
-pub press-spec : {M : Type 1} → statement M
-press-spec = tie.close (tie.spec (λ c κs. search needs) pause-requires returns (λ c κs. search needs) returns-2)
+pub press-bytes-spec : {M : Type 1} → statement M
+press-bytes-spec = tie.close (tie.spec (λ c κs. search needs) pause-requires returns (λ c κs. search needs) returns-2)
