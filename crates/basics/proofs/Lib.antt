@@ -5,4 +5,5 @@ pub mod Limits
 pub mod Sameness
 pub mod Zeros
 pub mod Once
+pub mod Copying
 pub mod Cases

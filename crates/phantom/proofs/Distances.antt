@@ -3,35 +3,14 @@
 use mathlib.Core.Path.{_≡_, refl, sym, ap, _∙_}
 use mathlib.Core.Bool.{Bool, true, false}
 use mathlib.Core.List.{List}
-use Prim.Native.Nat.{ℕ, zero, suc, _+_, _<_, _≤_}
+use Prim.Native.Nat.{ℕ, zero, suc, _+_, _≤_}
 use native.Mathlib.Nat.{le-antisymm}
 use native.Mathlib.Numerals.{add-one}
-use native.Mathlib.Decide.{ℕ-discrete, decLt}
 use native.Mathlib.Omega.{arith}
-use lib.ListN.{length, getD, set, List·getD-eq-default}
-use lib.Seq.{getD-set-same, getD-set-other}
+use lib.ListN.{getD}
 use Rattle.basics.specs.Choice.{either}
 use Rattle.basics.proofs.Cases.{either-true, either-false}
 use Rattle.phantom.specs.Phantom.{shares, sharesAt}
-
--- The columns with open ones behind them: l holds the first i columns of s so far.
-module _ (s l : List ℕ) (i : ℕ) where
-  pub front-more : i < length l → ((k : ℕ) → k < i → getD l k 0 ≡ getD s k 0) → (k : ℕ) → k < i + 1 → getD (set l i (getD s i 0)) k 0 ≡ getD s k 0
-  front-more h f k b = go (ℕ-discrete k i)
-    where
-      go : Dec (k ≡ i) → getD (set l i (getD s i 0)) k 0 ≡ getD s k 0
-      go (yes e) = rw e (getD-set-same l i (getD s i 0) 0 h)
-      go (no d) = getD-set-other l i k (getD s i 0) 0 d ∙ f k (omega arith)
-
-  pub behind-open : ((k : ℕ) → i ≤ k → getD l k 0 ≡ 0) → (k : ℕ) → i + 1 ≤ k → getD (set l i (getD s i 0)) k 0 ≡ 0
-  behind-open f k b = getD-set-other l i k (getD s i 0) 0 (λ (e : k ≡ i). omega arith) ∙ f k (omega arith)
-
-  pub front-all : length s ≤ i → ((k : ℕ) → k < i → getD l k 0 ≡ getD s k 0) → ((k : ℕ) → i ≤ k → getD l k 0 ≡ 0) → (k : ℕ) → getD l k 0 ≡ getD s k 0
-  front-all h f g k = go (decLt k i)
-    where
-      go : Dec (k < i) → getD l k 0 ≡ getD s k 0
-      go (yes b) = f k b
-      go (no n) = g k (omega arith) ∙ sym (List·getD-eq-default s 0 {n = k} (omega arith))
 
 -- A flag that a test raises.
 module _ (flag test r : Bool) where

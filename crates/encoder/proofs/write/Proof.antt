@@ -6,7 +6,7 @@ use mathlib.Core.List.{_++_}
 use Prim.Native.Nat.{ℕ, _≤_, _-_}
 use native.Mathlib.Nat.{le-antisymm}
 use lib.ListN.{length, take, drop}
-use Rattle.encoder.proofs.Writing.{written-length, written-more}
+use Rattle.basics.proofs.Copying.{copied-length, copied-more}
 use borrow.Author.Needs.{needs}
 use Rattle.encoder.proofs.write.Statement.{statement}
 use Rattle.encoder.proofs.write.Tie as tie
@@ -24,19 +24,19 @@ slice-write-out : tie.Need-slice-write-out Inv-loop μ-loop
 slice-write-out c =
     let b = c .before .before .before .args .sequence .bytes in
     let g : length b ≡ 8 = search needs in
-    omega (arith, written-length b _ _ (c .before .loop .i) (c .before .loop .inv .1) (omega arith) (omega arith))
+    omega (arith, copied-length b _ _ (c .before .loop .i) (c .before .loop .inv .1) (omega arith) (omega arith))
 
 loop-again : tie.Need-loop-again Inv-loop μ-loop
 loop-again c =
     let b = c .before .before .before .args .sequence .bytes in
     let g : length b ≡ 8 = search needs in
-    (omega arith, written-more b _ _ (c .before .loop .i) (c .before .loop .inv .1) (omega arith) (omega arith))
+    (omega arith, copied-more b _ _ (c .before .loop .i) (c .before .loop .inv .1) (omega arith) (omega arith))
 
 same-length : tie.Need-same-length Inv-loop μ-loop
 same-length c =
     let b = c .before .before .before .args .sequence .bytes in
     let g : length b ≡ 8 = search needs in
-    written-length b _ _ (c .before .loop .i) (c .before .loop .inv .1) (omega arith) (omega arith)
+    copied-length b _ _ (c .before .loop .i) (c .before .loop .inv .1) (omega arith) (omega arith)
 
 returns : tie.Need-returns Inv-loop μ-loop
 returns c =
