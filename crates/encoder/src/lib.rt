@@ -1,7 +1,7 @@
 // The encoder as the outside asks it (docs/RULES.md, sections 3 and 9): with numbers, and with an output that is lent.
 use codes::Action;
 use codes::Sequence;
-use strokes::sequence_of;
+use sequences::sequence_of;
 ghost use mathlib.Core.Path.{_≡_};
 ghost use Prim.Native.Nat.{_≤_};
 ghost use lib.ListN.{length};

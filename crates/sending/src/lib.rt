@@ -61,7 +61,7 @@ fn num_lock(indicators: u8) -> bool
 pub fn bytes_of(held: &Held, mode: Mode, kind: u8, key: u8, action: Action) -> Sequence
     ensures { λ r. ⌜ r ≡ holding (sendsWith (now (held .entry)) mode kind key action) ⌝ }
 {
-    strokes::sequence_of(
+    sequences::sequence_of(
         mode.set,
         key,
         action,
@@ -79,7 +79,7 @@ fn bytes_in(held: &Held, table: &Table, mode: Mode, kind: u8, key: u8, action: A
     if !forms::has_forms(mode.set, key) {
         return codes::plain::plain_sequence(table, mode.set, key, action, kind);
     }
-    strokes::sequence_in(
+    sequences::sequence_in(
         table,
         mode.set,
         key,

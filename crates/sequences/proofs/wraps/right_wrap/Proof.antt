@@ -1,7 +1,7 @@
--- `strokes::wraps::right_wrap` meets its contract: set 1 has one code, the others another. Assumes nothing.
+-- `sequences::wraps::right_wrap` meets its contract: set 1 has one code, the others another. Assumes nothing.
 use borrow.Author.Tests.{ne-eqb}
-use Rattle.strokes.proofs.wraps.right_wrap.Statement.{statement}
-use Rattle.strokes.proofs.wraps.right_wrap.Tie as tie
+use Rattle.sequences.proofs.wraps.right_wrap.Statement.{statement}
+use Rattle.sequences.proofs.wraps.right_wrap.Tie as tie
 
 returns : tie.Need-returns
 returns c = rw (c .if1 .taken)

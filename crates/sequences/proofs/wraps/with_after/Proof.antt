@@ -1,12 +1,12 @@
--- `strokes::wraps::with_after` meets its contract: in each form the wraps are those of the definition, in its order. Assumes nothing.
+-- `sequences::wraps::with_after` meets its contract: in each form the wraps are those of the definition, in its order. Assumes nothing.
 use native.Mathlib.Omega.{arith}
 use Rattle.codes.specs.Codes.{after}
 use Rattle.codes.specs.Sequences.{adding}
 use Rattle.codes.proofs.Adding.{joined, room}
 use Rattle.codes.proofs.Lengths.{make-short}
 use borrow.Author.Needs.{needs}
-use Rattle.strokes.proofs.wraps.with_after.Statement.{statement}
-use Rattle.strokes.proofs.wraps.with_after.Tie as tie
+use Rattle.sequences.proofs.wraps.with_after.Statement.{statement}
+use Rattle.sequences.proofs.wraps.with_after.Tie as tie
 
 enum-told : tie.Need-enum-told
 enum-told c = search needs

@@ -1,10 +1,10 @@
--- `strokes::made` meets its contract: the wrapping, then the make, at most 8 bytes together. Assumes nothing.
+-- `sequences::made` meets its contract: the wrapping, then the make, at most 8 bytes together. Assumes nothing.
 use native.Mathlib.Omega.{arith}
 use Rattle.codes.proofs.Adding.{joined, filled, none-held, room}
 use Rattle.codes.proofs.Lengths.{before-short, make-behind-short}
 use borrow.Author.Needs.{needs}
-use Rattle.strokes.proofs.made.Statement.{statement}
-use Rattle.strokes.proofs.made.Tie as tie
+use Rattle.sequences.proofs.made.Statement.{statement}
+use Rattle.sequences.proofs.made.Tie as tie
 
 with-before-requires : tie.Need-with-before-requires
 with-before-requires c κs = omega (arith, none-held _ (c .empty .ensures))

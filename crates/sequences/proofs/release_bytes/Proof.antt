@@ -1,12 +1,12 @@
--- `strokes::release_bytes` meets its contract: nothing, or the break and what the form sends after it, at most 8 bytes together. Assumes nothing.
+-- `sequences::release_bytes` meets its contract: nothing, or the break and what the form sends after it, at most 8 bytes together. Assumes nothing.
 use native.Mathlib.Omega.{arith}
 use Rattle.codes.specs.Codes.{bytesOf}
 use Rattle.codes.proofs.Answers.{passed, refused}
 use Rattle.codes.proofs.Adding.{joined, filled, none-held, room}
 use Rattle.codes.proofs.Lengths.{break-short, release-short}
 use borrow.Author.Needs.{needs}
-use Rattle.strokes.proofs.release_bytes.Statement.{statement}
-use Rattle.strokes.proofs.release_bytes.Tie as tie
+use Rattle.sequences.proofs.release_bytes.Statement.{statement}
+use Rattle.sequences.proofs.release_bytes.Tie as tie
 
 returns : tie.Need-returns
 unfolding bytesOf

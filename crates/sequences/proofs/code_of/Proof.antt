@@ -1,9 +1,9 @@
--- `strokes::code_of` meets its contract: the other form has its own code in each set, any other the one of the table. Assumes nothing.
+-- `sequences::code_of` meets its contract: the other form has its own code in each set, any other the one of the table. Assumes nothing.
 use borrow.Author.Tests.{ne-eqb}
 use Rattle.codes.specs.Codes.{codeOf}
 use borrow.Author.Needs.{needs}
-use Rattle.strokes.proofs.code_of.Statement.{statement}
-use Rattle.strokes.proofs.code_of.Tie as tie
+use Rattle.sequences.proofs.code_of.Statement.{statement}
+use Rattle.sequences.proofs.code_of.Tie as tie
 
 returns : tie.Need-returns
 unfolding codeOf

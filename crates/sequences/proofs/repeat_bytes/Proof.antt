@@ -1,9 +1,9 @@
--- `strokes::repeat_bytes` meets its contract: nothing, or the make behind no wrapping. Assumes nothing.
+-- `sequences::repeat_bytes` meets its contract: nothing, or the make behind no wrapping. Assumes nothing.
 use Rattle.codes.specs.Codes.{bytesOf, before}
 use Rattle.codes.proofs.Answers.{passed, refused}
 use borrow.Author.Needs.{needs}
-use Rattle.strokes.proofs.repeat_bytes.Statement.{statement}
-use Rattle.strokes.proofs.repeat_bytes.Tie as tie
+use Rattle.sequences.proofs.repeat_bytes.Statement.{statement}
+use Rattle.sequences.proofs.repeat_bytes.Tie as tie
 
 returns : tie.Need-returns
 unfolding bytesOf

@@ -1,10 +1,10 @@
--- `strokes::press_bytes` meets its contract: PAUSE is written out, any other key sends its make, wrapped by its form. Assumes nothing.
+-- `sequences::press_bytes` meets its contract: PAUSE is written out, any other key sends its make, wrapped by its form. Assumes nothing.
 use mathlib.Core.Path.{sym, _∙_}
 use Rattle.codes.specs.Codes.{bytesOf}
 use Rattle.codes.proofs.AtOnce.{at-once-range}
 use borrow.Author.Needs.{needs}
-use Rattle.strokes.proofs.press_bytes.Statement.{statement}
-use Rattle.strokes.proofs.press_bytes.Tie as tie
+use Rattle.sequences.proofs.press_bytes.Statement.{statement}
+use Rattle.sequences.proofs.press_bytes.Tie as tie
 
 pause-requires : tie.Need-pause-requires
 pause-requires c κs =

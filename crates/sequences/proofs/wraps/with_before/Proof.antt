@@ -1,12 +1,12 @@
--- `strokes::wraps::with_before` meets its contract: in each form the wraps are those of the definition, in its order. Assumes nothing.
+-- `sequences::wraps::with_before` meets its contract: in each form the wraps are those of the definition, in its order. Assumes nothing.
 use native.Mathlib.Omega.{arith}
 use Rattle.codes.specs.Codes.{before}
 use Rattle.codes.specs.Sequences.{adding}
 use Rattle.codes.proofs.Adding.{joined, room}
 use Rattle.codes.proofs.Lengths.{break-short}
 use borrow.Author.Needs.{needs}
-use Rattle.strokes.proofs.wraps.with_before.Statement.{statement}
-use Rattle.strokes.proofs.wraps.with_before.Tie as tie
+use Rattle.sequences.proofs.wraps.with_before.Statement.{statement}
+use Rattle.sequences.proofs.wraps.with_before.Tie as tie
 
 enum-told : tie.Need-enum-told
 enum-told c = search needs

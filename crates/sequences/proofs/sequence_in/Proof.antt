@@ -1,8 +1,8 @@
--- `strokes::sequence_in` meets its contract: each action in the form that the key takes. Assumes nothing.
+-- `sequences::sequence_in` meets its contract: each action in the form that the key takes. Assumes nothing.
 use Rattle.codes.specs.Codes.{encode}
 use borrow.Author.Needs.{needs}
-use Rattle.strokes.proofs.sequence_in.Statement.{statement}
-use Rattle.strokes.proofs.sequence_in.Tie as tie
+use Rattle.sequences.proofs.sequence_in.Statement.{statement}
+use Rattle.sequences.proofs.sequence_in.Tie as tie
 
 enum-told : tie.Need-enum-told
 enum-told c = search needs

@@ -1,12 +1,12 @@
--- `strokes::pause` meets its contract: in set 1 and in set 2, with CTRL and without, the bytes are computed and compared. Assumes nothing.
+-- `sequences::pause` meets its contract: in set 1 and in set 2, with CTRL and without, the bytes are computed and compared. Assumes nothing.
 use native.Mathlib.Omega.{arith}
 use mathlib.Core.Path.{_≡_}
 use Rattle.keys.specs.Keys.{codeIn, rowOf, rows}
 use Rattle.codes.specs.Codes.{pauseBytes, makeOf, breakOf, prefix}
 use Rattle.codes.specs.Sequences.{holding}
 use borrow.Author.Needs.{needs}
-use Rattle.strokes.proofs.pause.Statement.{statement}
-use Rattle.strokes.proofs.pause.Tie as tie
+use Rattle.sequences.proofs.pause.Statement.{statement}
+use Rattle.sequences.proofs.pause.Tie as tie
 
 returns : tie.Need-returns
 unfolding holding pauseBytes makeOf breakOf prefix codeIn rowOf rows

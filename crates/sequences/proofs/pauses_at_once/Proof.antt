@@ -1,7 +1,7 @@
--- `strokes::pauses_at_once` meets its contract: each return is the case that the tests so far leave. Assumes nothing.
+-- `sequences::pauses_at_once` meets its contract: each return is the case that the tests so far leave. Assumes nothing.
 use borrow.Author.Tests.{ne-eqb}
-use Rattle.strokes.proofs.pauses_at_once.Statement.{statement}
-use Rattle.strokes.proofs.pauses_at_once.Tie as tie
+use Rattle.sequences.proofs.pauses_at_once.Statement.{statement}
+use Rattle.sequences.proofs.pauses_at_once.Tie as tie
 
 returns : tie.Need-returns
 returns c = rw (ne-eqb _ _ (c .if1 .taken))

@@ -1,8 +1,8 @@
--- `strokes::is_other_print` meets its contract: the key is looked at first, then the form. Assumes nothing.
+-- `sequences::is_other_print` meets its contract: the key is looked at first, then the form. Assumes nothing.
 use borrow.Author.Tests.{eq-eqb, ne-eqb}
 use borrow.Author.Needs.{needs}
-use Rattle.strokes.proofs.is_other_print.Statement.{statement}
-use Rattle.strokes.proofs.is_other_print.Tie as tie
+use Rattle.sequences.proofs.is_other_print.Statement.{statement}
+use Rattle.sequences.proofs.is_other_print.Tie as tie
 
 returns : tie.Need-returns
 returns c = rw (ne-eqb _ _ (c .if1 .taken))
