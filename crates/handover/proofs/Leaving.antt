@@ -7,22 +7,32 @@ use native.Mathlib.Numerals.{add-one}
 use native.Mathlib.Omega.{arith}
 use borrow.Author.Tests.{not-true, not-false}
 use lib.Dec.{eqb}
-use lib.ListN.{getD}
-use Rattle.keys.specs.Keys.{lastKey}
+use lib.ListN.{length, getD}
+use Rattle.keys.specs.Keys.{lastKey, markOf}
 use Rattle.codes.specs.declared.Action.the-variants.{Release}
 use Rattle.codes.specs.declared.Sequence.{Sequence}
 use Rattle.codes.specs.Sequences.{holding}
-use Rattle.queue.specs.Queues.{waiting, contents, hasRoom}
+use Rattle.queue.specs.declared.Queue.{Queue}
+use Rattle.queue.specs.Queues.{waiting, queueOf, contents, roomFor, hasRoom, pushedTo}
+use Rattle.queue.proofs.Meaning.{length-waiting}
 use Rattle.record.specs.declared.Mode.{Mode}
 use Rattle.record.specs.Views.{Keys}
 use Rattle.record.specs.Held.{isHeld}
 use Rattle.range.specs.Range.{goodKeys}
-use Rattle.sending.specs.Sending.{sends}
+use Rattle.range.proofs.Ranges.{good-keys-queue}
+use Rattle.sending.specs.Sending.{sends, queuedOf}
 use Rattle.sending.proofs.Sent.{sequence-length}
 use Rattle.keying.specs.Handover.{Handed, canLeave, handedFrom, handedOver}
 use Rattle.keying.specs.Moves.{releasedWith, released}
 use Rattle.keying.proofs.Good.{released-good}
+use Rattle.keying.proofs.Places.{released-bytes}
 use Rattle.keying.proofs.Changes.{released-by-its-bytes}
+
+-- Pushed with the mark of the set, bytes are queued.
+pub pushed-queued : (q after : Queue) (m : Mode) (mark : ℕ) (bytes : List ℕ) → mark ≡ markOf (m .set)
+    → after ≡ queueOf (pushedTo mark (waiting q) bytes) → after ≡ queuedOf q m bytes
+unfolding queuedOf
+pushed-queued q after m mark bytes i e = rw (← i) e
 
 abbrev pub handed : Keys → Bool → Handed
 handed k unfinished = record { keys = k; unfinished = unfinished }
@@ -47,10 +57,11 @@ module _ (m : Mode) (types : List ℕ) (all : Keys) where
   -- The keys below `key` are done with, and those from it on are still to come.
   pub record Going (key : ℕ) (k : Keys) : Type 0 where
     pub good : goodKeys k ≡ true
+    pub places : length (k .queue .bytes) ≡ 16
     pub rest : handedFrom (suc lastKey - key) key k m types ≡ handedOver all m types
 
-  pub begins : goodKeys all ≡ true → Going 1 all
-  begins g = record { good = g; rest = refl }
+  pub begins : goodKeys all ≡ true → length (all .queue .bytes) ≡ 16 → Going 1 all
+  begins g p = record { good = g; places = p; rest = refl }
 
   module _ (key : ℕ) (k : Keys) (going : Going key k) where
     pub ends : lastKey < key → key ≤ suc lastKey → handed k false ≡ handedOver all m types
@@ -72,12 +83,15 @@ module _ (m : Mode) (types : List ℕ) (all : Keys) where
           rw (less, add-one) (sym step ∙ here)
 
       pub passes : (e : Keys) → isHeld k key ≡ false → e ≡ k → Going (key + 1) e
-      passes e z f = rw f (record { good = going .good; rest = next k (key-passed m types (lastKey - key) key k z) })
+      passes e z f = rw f (record { good = going .good; places = going .places; rest = next k (key-passed m types (lastKey - key) key k z) })
 
       module _ (n : isHeld k key ≡ true) (s : Sequence) (b : Bool)
-          (i : s ≡ holding (sends k m (getD types key 0) key Release)) (j : b ≡ hasRoom (waiting (k .queue)) (s .length)) where
+          (i : s ≡ holding (sends k m (getD types key 0) key Release)) (j : b ≡ roomFor (k .queue .length) (s .length)) where
         can : b ≡ canLeave k m types key
-        can = j ∙ ap (hasRoom (waiting (k .queue))) (sequence-length k m (getD types key 0) key Release s i)
+        can =
+            j
+            ∙ ap (λ (n : ℕ). roomFor n (s .length)) (sym (length-waiting (k .queue) (good-keys-queue k (going .good)) (going .places)))
+            ∙ ap (hasRoom (waiting (k .queue))) (sequence-length k m (getD types key 0) key Release s i)
 
         pub waits : b ≡ false → handed k true ≡ handedOver all m types
         waits f = sym (key-waits m types (lastKey - key) key k n (sym can ∙ f)) ∙ here
@@ -87,5 +101,6 @@ module _ (m : Mode) (types : List ℕ) (all : Keys) where
             rw (f, released-by-its-bytes k m (getD types key 0) key s i)
             (record {
               good = released-good m k (getD types key 0) key (going .good);
+              places = released-bytes m k (getD types key 0) key (going .places);
               rest = next (released k m (getD types key 0) key) (key-leaves m types (lastKey - key) key k n (sym can ∙ t));
             })

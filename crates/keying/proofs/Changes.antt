@@ -17,7 +17,7 @@ use Rattle.sending.specs.Sending.{sends, queuedOf}
 use Rattle.sending.proofs.Sent.{sequence-is}
 use Rattle.keying.specs.declared.OutgoingRest.{OutgoingRest}
 use Rattle.keying.specs.Repeat.{delayOf}
-use Rattle.keying.specs.Moves.{keysFrom, pressed, releasedWith, released}
+use Rattle.keying.specs.Moves.{keysFrom, pressed, letGo, releasedWith, released}
 
 -- The same parts make the same keys.
 pub keys-from-same : (held held′ bytes bytes′ : List ℕ) (rest rest′ : OutgoingRest) → held ≡ held′ → bytes ≡ bytes′ → rest ≡ rest′ → keysFrom held bytes rest ≡ keysFrom held′ bytes′ rest′
@@ -38,11 +38,15 @@ module _ (k : Keys) (m : Mode) (type key : ℕ) where
     unfolding pressed
     pressed-once n = simp (sym t, n, held-is, queue-is)
 
-  module _ (held : List ℕ) (held-is : held ≡ keyUp (k .held) key) (q : Queue) (queue-is : q ≡ queuedOf (k .queue) m (sends k m type key Release)) where
-    pub released-repeats : k .repeating ≡ key → keys held q 0 0 ≡ released k m type key
-    unfolding released releasedWith
-    released-repeats e = simp (eq-eqb _ _ e, held-is, queue-is)
+  -- Its bytes are queued, and it is let go.
+  pub released-by-letting-go : (q : Queue) → q ≡ queuedOf (k .queue) m (sends k m type key Release) → letGo k key q ≡ released k m type key
+  unfolding released releasedWith
+  released-by-letting-go q e = ap (letGo k key) e
 
-    pub released-only : (k .repeating ≡ key → ⊥) → keys held q (k .repeating) (k .countdown) ≡ released k m type key
-    unfolding released releasedWith
-    released-only n = simp (ne-eqb _ _ n, held-is, queue-is)
+-- A key that is let go is the one that repeats, or another.
+module _ (k : Keys) (key : ℕ) (held : List ℕ) (held-is : held ≡ keyUp (k .held) key) where
+  pub repeating-let-go : k .repeating ≡ key → keys held (k .queue) 0 0 ≡ letGo k key (k .queue)
+  repeating-let-go e = simp (eq-eqb _ _ e, held-is)
+
+  pub other-let-go : (k .repeating ≡ key → ⊥) → keys held (k .queue) (k .repeating) (k .countdown) ≡ letGo k key (k .queue)
+  other-let-go n = simp (ne-eqb _ _ n, held-is)

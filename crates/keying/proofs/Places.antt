@@ -39,7 +39,7 @@ module _ (m : Mode) where
   unfolding pressed
   pressed-bytes k type key e = queued-places (k .queue) m (sends k m type key Press) e
 
-  released-bytes : (k : Keys) (type key : ℕ) → length (k .queue .bytes) ≡ 16 → length (released k m type key .queue .bytes) ≡ 16
+  pub released-bytes : (k : Keys) (type key : ℕ) → length (k .queue .bytes) ≡ 16 → length (released k m type key .queue .bytes) ≡ 16
   unfolding released releasedWith
   released-bytes k type key e = queued-places (k .queue) m (sends k m type key Release) e
 

@@ -6,12 +6,13 @@ use lib.ListN.{getD, length}
 use Rattle.basics.specs.Choice.{pick, either}
 use Rattle.keys.specs.Keys.{lastKey}
 use Rattle.codes.specs.declared.Action.the-variants.{Release}
-use Rattle.queue.specs.Queues.{waiting, hasRoom}
+use Rattle.queue.specs.Queues.{queueWith, waiting, hasRoom}
 use Rattle.record.specs.declared.Mode.{Mode}
 use Rattle.record.specs.Views.{Keys, keysWith}
 use Rattle.record.specs.Held.{isHeld}
 use Rattle.sending.specs.Sending.{sends}
 use Rattle.keying.specs.declared.HandedRest.{HandedRest}
+use Rattle.keying.specs.declared.OutgoingRest.{OutgoingRest}
 use Rattle.keying.specs.Moves.{released}
 
 -- The keys after a handover went on, and whether it is still open.
@@ -38,3 +39,11 @@ handedOver k m types = handedFrom lastKey 1 k m types
 -- What the code gives of it, the flags having changed in place.
 abbrev pub handedWith : List ℕ → HandedRest → Handed
 handedWith held p = record { keys = keysWith held (p .outgoing); unfinished = p .unfinished }
+
+-- The same put together: the bytes of the queue, which the code works on in place, and the rest.
+abbrev pub handedRest : List ℕ → OutgoingRest → Bool → HandedRest
+handedRest bytes rest unfinished =
+    record {
+      outgoing = record { queue = queueWith bytes (rest .length); repeating = rest .repeating; countdown = rest .countdown };
+      unfinished = unfinished;
+    }

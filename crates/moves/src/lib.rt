@@ -1,6 +1,7 @@
 // A key goes down or comes up (docs/RULES.md, sections 5 and 6). The flags of the held keys are lent, and change in place.
 use contacts::Columns;
 use keying::OutgoingRest;
+use keying::let_go;
 use keying::repeating::delay_of;
 use keys::Table;
 use queue::Queue;
@@ -10,7 +11,6 @@ use record::Mode;
 use record::Outgoing;
 use record::Types;
 use record::held::key_down;
-use record::held::key_up;
 use sending::send_press;
 use sending::send_release;
 ghost use mathlib.Core.Path.{_≡_};
@@ -66,14 +66,13 @@ fn release(
     ensures { λ r. ⌜ keysFrom (now (held .exit)) (now (bytes .exit)) r
         ≡ released (keysFrom (now (held .entry)) (now (bytes .entry)) rest) mode kind key ⌝ }
 {
-    let mut after = rest;
-    after.length = send_release(held, bytes, rest.length as usize, table, mode, kind, key) as u8;
-    key_up(held, key);
-    if rest.repeating == key {
-        after.repeating = 0;
-        after.countdown = 0;
-    }
-    after
+    let length = send_release(held, bytes, rest.length as usize, table, mode, kind, key) as u8;
+    let after = OutgoingRest {
+        length,
+        repeating: rest.repeating,
+        countdown: rest.countdown,
+    };
+    let_go(held, after, key)
 }
 
 // The contact of a key turned, to closed (1) or to open (0).

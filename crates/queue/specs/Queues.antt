@@ -33,9 +33,13 @@ tidy q = tidyArray 16 (q .bytes) (q .length)
 unfoldable pub contents : Sequence → List ℕ
 contents s = take (s .length) (s .bytes)
 
--- There is room for so many bytes more.
+-- There is room for so many bytes more, by how many wait,
+abbrev pub roomFor : ℕ → ℕ → Bool
+roomFor count more = leb (count + more) 16
+
+-- and by those that wait.
 abbrev pub hasRoom : List ℕ → ℕ → Bool
-hasRoom bytes more = leb (length bytes + more) 16
+hasRoom bytes more = roomFor (length bytes) more
 
 -- A list with its last entry replaced.
 unfoldable pub lastReplaced : ℕ → List ℕ → List ℕ

@@ -5,7 +5,7 @@ ghost use mathlib.Core.Bool.{true};
 ghost use mathlib.Core.List.{[]};
 ghost use Prim.Native.Nat.{_≤_};
 ghost use lib.ListN.{length, drop};
-ghost use Rattle.queue.specs.Queues.{queueWith, waiting, queueOf, tidy, contents, hasRoom, lastReplaced, pushedTo};
+ghost use Rattle.queue.specs.Queues.{queueWith, waiting, queueOf, tidy, contents, roomFor, lastReplaced, pushedTo};
 
 // The first `length` of `bytes` wait, the oldest in front; zeros stand behind them.
 pub struct Queue {
@@ -37,12 +37,12 @@ pub fn is_tidy(queue: Queue) -> bool
     good
 }
 
-// A sequence fits.
-pub fn fits(queue: Queue, sequence: Sequence) -> bool
-    requires { ⌜ (queue .length ≤ 16) × (sequence .length ≤ 8) ⌝ }
-    ensures { λ r. ⌜ r ≡ hasRoom (waiting queue) (sequence .length) ⌝ }
+// A sequence fits where so many bytes wait.
+pub fn fits(count: usize, sequence: Sequence) -> bool
+    requires { ⌜ (count ≤ 16) × (sequence .length ≤ 8) ⌝ }
+    ensures { λ r. ⌜ r ≡ roomFor count (sequence .length) ⌝ }
 {
-    queue.length + sequence.length <= 16
+    count + sequence.length <= 16
 }
 
 // The last of the bytes that wait is replaced by the mark. Of these bytes the first `at` wait, and one at least.

@@ -3,7 +3,6 @@ use codes::Action;
 use codes::Sequence;
 use keys::Table;
 use keys::mark_of;
-use queue::Queue;
 use record::Held;
 use record::Mode;
 use record::held::is_held;
@@ -16,7 +15,7 @@ ghost use Rattle.codes.specs.declared.Action.the-variants.{Press, Release};
 ghost use Rattle.codes.specs.Codes.{pausesAtOnce, sendsRelease};
 ghost use Rattle.codes.specs.Sequences.{holding};
 ghost use Rattle.keys.specs.Keys.{laidOut};
-ghost use Rattle.queue.specs.Queues.{queueWith, tidy, contents};
+ghost use Rattle.queue.specs.Queues.{queueWith, tidy};
 ghost use Rattle.range.specs.Range.{goodMode};
 ghost use Rattle.record.specs.Held.{flagOf, modifiersOf};
 ghost use Rattle.sending.specs.Sending.{numLock, sendsWith, queuedOf, shortestRelease};
@@ -88,14 +87,6 @@ fn bytes_in(held: &Held, table: &Table, mode: Mode, kind: u8, key: u8, action: A
         modifiers_of(held),
         num_lock(mode.indicators),
     )
-}
-
-// The queue with a sequence behind it, or with the overrun mark.
-pub fn queued(queue: Queue, mode: Mode, sequence: Sequence) -> Queue
-    requires { ⌜ (tidy queue ≡ true) × (sequence .length ≤ 8) ⌝ }
-    ensures { λ r. ⌜ r ≡ queuedOf queue mode (contents sequence) ⌝ }
-{
-    queue::pushed(queue, sequence, mark_of(mode.set as u32))
 }
 
 // A release that sends nothing: that of PAUSE, which sent all on its press, and in set 3 those of keys whose type sends none. It is

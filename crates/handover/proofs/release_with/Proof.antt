@@ -1,23 +1,47 @@
 -- `handover::release_with` meets its contract: the bytes are queued, and the key is let go. Assumes nothing.
 use mathlib.Core.Path.{ap, _∙_}
+use Prim.Native.Nat.{_≤_}
+use native.Mathlib.Omega.{arith}
 use borrow.Author.Needs.{needs}
-use Rattle.queue.specs.declared.Queue.{Queue}
-use Rattle.record.specs.Views.{keysWith}
+use Rattle.queue.specs.Queues.{queueWith}
 use Rattle.range.proofs.Ranges.{good-keys-queue}
-use Rattle.keying.specs.Moves.{letGo, releasedWith}
+use Rattle.keying.specs.Moves.{keysFrom, letGo, releasedWith}
+use Rattle.keying.proofs.Good.{queued-short}
+use Rattle.handover.proofs.Leaving.{pushed-queued}
 use Rattle.handover.proofs.release_with.Statement.{statement}
 use Rattle.handover.proofs.release_with.Tie as tie
 
-queued-requires : tie.Need-queued-requires
-queued-requires c κs =
-    let a = c .before .args in
-    (good-keys-queue (keysWith (a .held .now) (a .outgoing)) (c .before .pre .0), c .before .pre .2)
+push-requires : tie.Need-push-requires
+push-requires c κs =
+    let s = c .before .before .before .before in
+    let a = s .args in
+    (good-keys-queue (keysFrom (a .held .now) (a .bytes .now) (a .rest)) (s .pre .0), s .pre .2)
+
+cast-after : tie.Need-cast-after
+cast-after c =
+    let s = c .before .before .before .before .before in
+    let a = s .args in
+    let k = keysFrom (a .held .now) (a .bytes .now) (a .rest) in
+    let queued = pushed-queued (k .queue) (queueWith _ (c .push .result)) (a .mode) _ _ (c .before .mark-of .ensures) (c .push .ensures) in
+    let few : c .push .result ≤ 16 = queued-short _ (k .queue) _ _ queued (good-keys-queue k (s .pre .0)) in
+    omega arith
 
 returns : tie.Need-returns
 unfolding releasedWith
 returns c =
-    let a = c .before .before .before .before .args in
-    c .let-go .ensures ∙ ap (λ (q : Queue). letGo (keysWith (a .held .now) (a .outgoing)) (a .key) q) (c .before .before .queued .ensures)
+    let p = c .before .before in
+    let a = p .before .before .before .before .before .args in
+    let k = keysFrom (a .held .now) (a .bytes .now) (a .rest) in
+    c .let-go .ensures _ ∙ ap (letGo k (a .key)) (pushed-queued (k .queue) _ (a .mode) _ _ (p .before .mark-of .ensures) (p .push .ensures))
 
 pub release-with-spec : {M : Type 1} → statement M
-release-with-spec = tie.close (tie.spec queued-requires (λ c κs. search needs) returns)
+release-with-spec =
+    tie.close
+    (tie.spec
+    (λ c. search needs)  -- cast-push
+    (λ c. search needs)  -- cast-mark-of
+    (λ c κs. search needs)  -- mark-of-requires
+    push-requires
+    cast-after
+    (λ c κs. search needs)  -- let-go-requires
+    returns)

@@ -1,4 +1,5 @@
--- `moves::release` meets its contract: its test is whether the key was the one that repeats. Assumes nothing.
+-- `moves::release` meets its contract: its bytes are queued, and the key is let go. Assumes nothing.
+use mathlib.Core.Path.{_∙_}
 use Prim.Native.Nat.{_≤_}
 use native.Mathlib.Omega.{arith}
 use borrow.Author.Needs.{needs}
@@ -7,7 +8,7 @@ use Rattle.range.proofs.Ranges.{good-keys-queue}
 use Rattle.sending.specs.Sending.{sends}
 use Rattle.keying.specs.Moves.{keysFrom}
 use Rattle.keying.proofs.Good.{queued-short}
-use Rattle.keying.proofs.Changes.{released-repeats, released-only}
+use Rattle.keying.proofs.Changes.{released-by-letting-go}
 use Rattle.moves.proofs.release.Statement.{statement}
 use Rattle.moves.proofs.release.Tie as tie
 
@@ -17,8 +18,8 @@ send-release-requires c κs =
     let a = s .args in
     (good-keys-queue (keysFrom (a .held .now) (a .bytes .now) (a .rest)) (s .pre .0), s .pre .2, s .pre .1, s .pre .4)
 
-cast-after : tie.Need-cast-after
-cast-after c =
+cast-length : tie.Need-cast-length
+cast-length c =
     let s = c .before .before .before .before in
     let a = s .args in
     let k = keysFrom (a .held .now) (a .bytes .now) (a .rest) in
@@ -28,18 +29,9 @@ cast-after c =
 returns : tie.Need-returns
 unfolding sends
 returns c =
-    let u = c .before .before in
-    let r = u .before .before in
+    let r = c .before .before in
     let a = r .before .before .before .before .args in
-    released-repeats (keysFrom (a .held .now) (a .bytes .now) (a .rest)) (a .mode) (a .kind) (a .key) _ (u .key-up .ensures) _ (r .send-release .ensures) (c .if1 .taken)
-
-returns-2 : tie.Need-returns-2
-unfolding sends
-returns-2 c =
-    let u = c .before .before in
-    let r = u .before .before in
-    let a = r .before .before .before .before .args in
-    released-only (keysFrom (a .held .now) (a .bytes .now) (a .rest)) (a .mode) (a .kind) (a .key) _ (u .key-up .ensures) _ (r .send-release .ensures) (c .if1 .left)
+    c .let-go .ensures _ ∙ released-by-letting-go (keysFrom (a .held .now) (a .bytes .now) (a .rest)) (a .mode) (a .kind) (a .key) _ (r .send-release .ensures)
 
 pub release-spec : {M : Type 1} → statement M
-release-spec = tie.close (tie.spec (λ c. search needs) send-release-requires cast-after (λ c κs. search needs) returns returns-2)
+release-spec = tie.close (tie.spec (λ c. search needs) send-release-requires cast-length (λ c κs. search needs) returns)
