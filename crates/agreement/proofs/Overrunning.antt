@@ -13,7 +13,7 @@ use Rattle.basics.proofs.Cases.{neither, never}
 use Rattle.contacts.specs.Counts.{countedOf}
 use Rattle.contacts.specs.Scans.{contact}
 use Rattle.dock.specs.Scan.{isCounted}
-use Rattle.keying.specs.Moves.{turnsTo}
+use Rattle.keying.specs.Changes.{turnsTo}
 use Rattle.keying.specs.Repeat.{ticked}
 use Rattle.keying.proofs.Good.{turns-good}
 use Rattle.keying.proofs.Places.{turns-bytes}

@@ -16,7 +16,7 @@ use Rattle.dock.specs.declared.Answer.the-variants.{Accepted, ScanLength}
 use Rattle.dock.specs.Closing.{closing}
 use Rattle.dock.specs.Scan.{listening, isCounted, counting, changed, quiet, repeating, heardScan, scanned, scanOf}
 use Rattle.history.proofs.Counters.{counted-again}
-use Rattle.keying.specs.Moves.{turnsTo}
+use Rattle.keying.specs.Changes.{turnsTo}
 use Rattle.keying.specs.Repeat.{ticked, repeated}
 use Rattle.keying.proofs.Places.{turns-places, repeated-places}
 use Rattle.record.specs.Views.{contactsOf, keysOf, Keys}

@@ -10,7 +10,7 @@ use Rattle.contacts.specs.Counts.{Contacts, atRest, countedOf}
 use Rattle.phantom.specs.Phantom.{isPhantom}
 use Rattle.contacts.specs.Scans.{contact}
 use Rattle.contacts.proofs.Passes.{rest-stays}
-use Rattle.keying.specs.Moves.{turned, turnsTo}
+use Rattle.keying.specs.Changes.{turned, turnsTo}
 use Rattle.record.specs.declared.Mode.{Mode}
 use Rattle.record.specs.Views.{Keys, contactsOf, keysOf}
 use Rattle.record.specs.Parts.{withKeys, withContacts}

@@ -8,7 +8,7 @@ use lib.Dec.{eqb}
 use lib.ListN.{length}
 use Rattle.contacts.specs.Counts.{Contacts, countedOf}
 use Rattle.phantom.specs.Phantom.{isPhantom}
-use Rattle.keying.specs.Moves.{turnsTo}
+use Rattle.keying.specs.Changes.{turnsTo}
 use Rattle.keying.specs.Repeat.{ticked, repeated}
 use Rattle.record.specs.Views.{Keys, contactsOf, keysOf}
 use Rattle.record.specs.Parts.{withKeys, withContacts}

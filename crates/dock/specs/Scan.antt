@@ -8,7 +8,7 @@ use Rattle.basics.specs.Choice.{pick, both}
 use Rattle.basics.specs.Said.{Said, accepted, refused}
 use Rattle.phantom.specs.Phantom.{isPhantom}
 use Rattle.contacts.specs.Counts.{countedOf}
-use Rattle.keying.specs.Moves.{turnsTo}
+use Rattle.keying.specs.Changes.{turnsTo}
 use Rattle.keying.specs.Repeat.{ticked, repeated}
 use Rattle.record.specs.declared.Dock.{Dock}
 use Rattle.record.specs.Views.{contactsOf, keysOf}

@@ -23,7 +23,7 @@ use Rattle.range.proofs.Ranges.{good-keys-queue}
 use Rattle.sending.specs.Sending.{sends, queuedOf}
 use Rattle.sending.proofs.Sent.{sequence-length}
 use Rattle.keying.specs.Handover.{Handed, canLeave, handedFrom, handedOver}
-use Rattle.keying.specs.Moves.{releasedWith, released}
+use Rattle.keying.specs.Changes.{releasedWith, released}
 use Rattle.keying.proofs.Good.{released-good}
 use Rattle.keying.proofs.Places.{released-bytes}
 use Rattle.keying.proofs.Changes.{released-by-its-bytes}

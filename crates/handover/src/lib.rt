@@ -18,7 +18,7 @@ ghost use Prim.Native.Nat.{_≤_, _<_};
 ghost use Rattle.queue.specs.Queues.{contents};
 ghost use Rattle.record.specs.Views.{keysWith};
 ghost use Rattle.range.specs.Range.{goodKeys, goodMode};
-ghost use Rattle.keying.specs.Moves.{keysFrom, releasedWith};
+ghost use Rattle.keying.specs.Changes.{keysFrom, releasedWith};
 ghost use Rattle.keying.specs.Handover.{handedWith, handedRest, handedOver};
 
 // A key is released, and these bytes say so.

@@ -17,7 +17,7 @@ use Rattle.sending.specs.Sending.{sends, queuedOf}
 use Rattle.sending.proofs.Sent.{sequence-is}
 use Rattle.keying.specs.declared.OutgoingRest.{OutgoingRest}
 use Rattle.keying.specs.Repeat.{delayOf}
-use Rattle.keying.specs.Moves.{keysFrom, pressed, letGo, releasedWith, released}
+use Rattle.keying.specs.Changes.{keysFrom, pressed, letGo, releasedWith, released}
 
 -- The same parts make the same keys.
 pub keys-from-same : (held held′ bytes bytes′ : List ℕ) (rest rest′ : OutgoingRest) → held ≡ held′ → bytes ≡ bytes′ → rest ≡ rest′ → keysFrom held bytes rest ≡ keysFrom held′ bytes′ rest′

@@ -22,7 +22,7 @@ use Rattle.range.proofs.Ranges.{good-mode-rate, good-outgoing, good-keys-queue,
 use Rattle.sending.specs.Sending.{sends, queuedOf}
 use Rattle.sending.proofs.Sent.{sends-short}
 use Rattle.keying.specs.Repeat.{delayOf, intervalOf, ticked, isDue, repeated}
-use Rattle.keying.specs.Moves.{pressed, releasedWith, released, moved, turnsTo}
+use Rattle.keying.specs.Changes.{pressed, releasedWith, released, moved, turnsTo}
 use Rattle.keying.specs.Handover.{handedFrom}
 use Rattle.keying.proofs.Kept.{handed-keeps, moved-keeps, turns-keep}
 

@@ -15,7 +15,7 @@ use Rattle.record.specs.declared.Mode.{Mode}
 use Rattle.record.specs.Views.{Keys}
 use Rattle.record.specs.Held.{isHeld}
 use Rattle.keying.specs.Handover.{Handed, canLeave, handedFrom}
-use Rattle.keying.specs.Moves.{pressed, released, moved, turned, turnsTo}
+use Rattle.keying.specs.Changes.{pressed, released, moved, turned, turnsTo}
 
 module _ (P : Keys → Type 0) (m : Mode) (up : (k : Keys) (type key : ℕ) → P k → P (released k m type key)) where
   pub handed-keeps : (n key : ℕ) (k : Keys) (types : List ℕ) → P k → P (handedFrom n key k m types .keys)

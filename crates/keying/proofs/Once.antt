@@ -10,7 +10,7 @@ use Rattle.record.proofs.Once.{keys-once}
 use Rattle.keying.specs.Handover.{Handed, handedWith}
 use Rattle.keying.specs.declared.HandedRest.{HandedRest}
 use Rattle.keying.specs.declared.OutgoingRest.{OutgoingRest}
-use Rattle.keying.specs.Moves.{keysFrom}
+use Rattle.keying.specs.Changes.{keysFrom}
 
 -- `keysFrom`.
 pub keys-from-once : {stated : Keys} (held held′ bytes bytes′ : List ℕ) (rest rest′ : OutgoingRest)

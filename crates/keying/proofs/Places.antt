@@ -19,7 +19,7 @@ use Rattle.record.specs.Views.{Keys}
 use Rattle.sending.specs.Sending.{sends, queuedOf}
 use Rattle.sending.proofs.Sent.{sends-short}
 use Rattle.keying.specs.Repeat.{isDue, repeated}
-use Rattle.keying.specs.Moves.{pressed, releasedWith, released, moved, turnsTo}
+use Rattle.keying.specs.Changes.{pressed, releasedWith, released, moved, turnsTo}
 use Rattle.keying.specs.Handover.{handedFrom}
 use Rattle.keying.proofs.Kept.{handed-keeps, moved-keeps, turns-keep}
 

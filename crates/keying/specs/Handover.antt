@@ -13,7 +13,7 @@ use Rattle.record.specs.Held.{isHeld}
 use Rattle.sending.specs.Sending.{sends}
 use Rattle.keying.specs.declared.HandedRest.{HandedRest}
 use Rattle.keying.specs.declared.OutgoingRest.{OutgoingRest}
-use Rattle.keying.specs.Moves.{released}
+use Rattle.keying.specs.Changes.{released}
 
 -- The keys after a handover went on, and whether it is still open.
 pub record Handed : Type 0 where

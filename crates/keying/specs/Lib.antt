@@ -1,3 +1,3 @@
-pub mod Moves
+pub mod Changes
 pub mod Repeat
 pub mod Handover

@@ -6,7 +6,7 @@ ghost use Prim.Native.Nat.{ℕ, _<_};
 ghost use mathlib.Core.Path.{_≡_};
 ghost use mathlib.Core.List.{List};
 ghost use Rattle.queue.specs.Queues.{queueWith};
-ghost use Rattle.keying.specs.Moves.{keysFrom, letGo};
+ghost use Rattle.keying.specs.Changes.{keysFrom, letGo};
 
 pub mod repeating; // repeating.rt: the key that repeats
 

@@ -15,7 +15,7 @@ use Rattle.contacts.specs.Scans.{contact}
 use Rattle.phantom.specs.Phantom.{isPhantom, sharesAny}
 use Rattle.contacts.specs.Counts.{countedOf}
 use Rattle.sending.specs.Sending.{sends, queuedOf}
-use Rattle.keying.specs.Moves.{pressed, releasedWith, released, moved, turned, turnsTo}
+use Rattle.keying.specs.Changes.{pressed, releasedWith, released, moved, turned, turnsTo}
 use Rattle.keying.specs.Repeat.{delayOf, intervalOf, repeated}
 use Rattle.keying.specs.Handover.{handedFrom}
 use Rattle.frames.specs.Frames.{parity, packedOf, whole, unpackedOf}

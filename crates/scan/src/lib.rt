@@ -45,7 +45,7 @@ fn count(
     contacts::count(closed, counts, scan);
     let outgoing = rest.outgoing;
     let mode = rest.mode;
-    let turned = moves::turns(held, outgoing, mode, types, map, &was, closed);
+    let turned = changes::turns(held, outgoing, mode, types, map, &was, closed);
     let mut after = rest;
     after.outgoing = turned;
     after

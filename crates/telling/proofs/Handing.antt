@@ -19,7 +19,7 @@ use Rattle.queue.proofs.Room.{no-room-waits}
 use Rattle.sending.specs.Sending.{sends}
 use Rattle.sending.proofs.Sent.{sends-short}
 use Rattle.keying.specs.Handover.{Handed, canLeave, handedFrom}
-use Rattle.keying.specs.Moves.{releasedWith, released}
+use Rattle.keying.specs.Changes.{releasedWith, released}
 use Rattle.keying.proofs.Kept.{handed-keeps}
 use Rattle.record.specs.declared.Mode.{Mode}
 use Rattle.record.specs.Views.{Keys}

@@ -16,7 +16,7 @@ use Rattle.basics.proofs.Limits.{up-to-at}
 use Rattle.keys.specs.Keys.{lastKey}
 use Rattle.contacts.specs.Scans.{contact}
 use Rattle.contacts.proofs.Pointwise.{contact-small}
-use Rattle.keying.specs.Moves.{pressed, releasedWith, released, moved, turned, turnsTo}
+use Rattle.keying.specs.Changes.{pressed, releasedWith, released, moved, turned, turnsTo}
 use Rattle.keying.proofs.Kept.{turns-keep}
 use Rattle.record.specs.declared.Mode.{Mode}
 use Rattle.record.specs.Views.{Keys}

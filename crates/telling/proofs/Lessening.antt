@@ -12,7 +12,7 @@ use Rattle.queue.specs.Queues.{waiting}
 use Rattle.sending.specs.Sending.{sends}
 use Rattle.sending.proofs.Sent.{sends-short, flag-small}
 use Rattle.keying.specs.Handover.{Handed, canLeave, handedFrom}
-use Rattle.keying.specs.Moves.{releasedWith, released}
+use Rattle.keying.specs.Changes.{releasedWith, released}
 use Rattle.record.specs.declared.Mode.{Mode}
 use Rattle.record.specs.Views.{Keys}
 use Rattle.record.specs.Held.{isHeld, heldTo, heldCount}

@@ -21,7 +21,7 @@ use Rattle.record.specs.declared.Mode.{Mode}
 use Rattle.record.specs.Views.{Keys}
 use Rattle.sending.specs.Sending.{sends, queuedOf}
 use Rattle.sending.proofs.Sent.{sends-short}
-use Rattle.keying.specs.Moves.{pressed, releasedWith, released, moved, turned, turnedAt}
+use Rattle.keying.specs.Changes.{pressed, releasedWith, released, moved, turned, turnedAt}
 use Rattle.telling.specs.Overruns.{actionTo, lacksRoom, overrunsAt}
 
 -- The bytes before and after: the same, but for the last.

@@ -14,7 +14,7 @@ use Rattle.basics.proofs.Limits.{up-to-at}
 use Rattle.keys.specs.Keys.{lastKey}
 use Rattle.codes.specs.Codes.{mayRepeat}
 use Rattle.keying.specs.Repeat.{isDue, repeated}
-use Rattle.keying.specs.Moves.{pressed, releasedWith, released, turnsTo}
+use Rattle.keying.specs.Changes.{pressed, releasedWith, released, turnsTo}
 use Rattle.keying.specs.Handover.{handedFrom}
 use Rattle.keying.proofs.Kept.{handed-keeps, turns-keep}
 use Rattle.record.specs.declared.Mode.{Mode}

@@ -24,7 +24,7 @@ use Rattle.record.specs.Views.{Keys, withQueue}
 use Rattle.record.specs.Held.{isHeld, modifiersOf}
 use Rattle.sending.specs.Sending.{numLock, sends}
 use Rattle.keying.specs.Handover.{Handed, canLeave, handedFrom}
-use Rattle.keying.specs.Moves.{pressed, releasedWith, released, turnsTo}
+use Rattle.keying.specs.Changes.{pressed, releasedWith, released, turnsTo}
 use Rattle.keying.specs.Repeat.{ticked, isDue, repeated}
 use Rattle.terminal.specs.Terminals.{Terminal, terminal, hears, hearsAll}
 use Rattle.terminal.proofs.Hearing.{hears-more, hears-first}

@@ -12,7 +12,7 @@ use Rattle.basics.specs.Choice.{pick}
 use Rattle.codes.specs.declared.Action.{Action}
 use Rattle.codes.specs.declared.Action.the-variants.{Press, Release}
 use Rattle.contacts.specs.Scans.{contact}
-use Rattle.keying.specs.Moves.{pressed, released, moved, turned, turnedAt}
+use Rattle.keying.specs.Changes.{pressed, released, moved, turned, turnedAt}
 use Rattle.queue.specs.Queues.{waiting, hasRoom}
 use Rattle.record.specs.declared.Mode.{Mode}
 use Rattle.record.specs.Views.{Keys}

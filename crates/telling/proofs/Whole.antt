@@ -17,7 +17,7 @@ use Rattle.record.specs.Views.{Keys}
 use Rattle.record.specs.Held.{isHeld}
 use Rattle.sending.specs.Sending.{sends, queuedOf}
 use Rattle.keying.specs.Handover.{Handed, canLeave, handedFrom}
-use Rattle.keying.specs.Moves.{pressed, releasedWith, released, turnsTo}
+use Rattle.keying.specs.Changes.{pressed, releasedWith, released, turnsTo}
 use Rattle.telling.specs.Overruns.{overrunsAt, overrunsTo}
 use Rattle.telling.specs.Queued.{turnBytes, handedBytes}
 use Rattle.basics.proofs.Cases.{two-by-cases, neither-first, neither-second}

@@ -8,7 +8,7 @@ use Rattle.basics.specs.Choice.{pick, both, either}
 use Rattle.codes.specs.declared.Action.{Action}
 use Rattle.codes.specs.declared.Action.the-variants.{Press, Release}
 use Rattle.contacts.specs.Scans.{contact}
-use Rattle.keying.specs.Moves.{turnsTo}
+use Rattle.keying.specs.Changes.{turnsTo}
 use Rattle.queue.specs.Queues.{waiting, hasRoom}
 use Rattle.record.specs.declared.Mode.{Mode}
 use Rattle.record.specs.Views.{Keys}

@@ -8,7 +8,7 @@ use lib.ListN.{getD}
 use Rattle.basics.specs.Choice.{pick, either}
 use Rattle.codes.specs.declared.Action.the-variants.{Release}
 use Rattle.contacts.specs.Scans.{contact}
-use Rattle.keying.specs.Moves.{released, turnsTo}
+use Rattle.keying.specs.Changes.{released, turnsTo}
 use Rattle.keying.specs.Handover.{canLeave}
 use Rattle.record.specs.declared.Mode.{Mode}
 use Rattle.record.specs.Views.{Keys}

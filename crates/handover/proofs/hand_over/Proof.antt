@@ -14,7 +14,7 @@ use Rattle.record.specs.Views.{keysWith}
 use Rattle.range.proofs.Ranges.{good-keys-queue}
 use Rattle.sending.specs.Sending.{sends}
 use Rattle.sending.proofs.Sent.{sequence-short}
-use Rattle.keying.specs.Moves.{keysFrom}
+use Rattle.keying.specs.Changes.{keysFrom}
 use Rattle.keying.specs.Handover.{handedWith}
 use Rattle.keying.proofs.Changes.{keys-from-same}
 use Rattle.handover.proofs.Leaving.{Going, begins, passes, leaves, waits, ends}

@@ -5,7 +5,7 @@ use native.Mathlib.Omega.{arith}
 use borrow.Author.Needs.{needs}
 use Rattle.queue.specs.Queues.{queueWith}
 use Rattle.range.proofs.Ranges.{good-keys-queue}
-use Rattle.keying.specs.Moves.{keysFrom, letGo, releasedWith}
+use Rattle.keying.specs.Changes.{keysFrom, letGo, releasedWith}
 use Rattle.keying.proofs.Good.{queued-short}
 use Rattle.handover.proofs.Leaving.{pushed-queued}
 use Rattle.handover.proofs.release_with.Statement.{statement}

@@ -1,6 +1,6 @@
 -- `keying::let_go` meets its contract: its test is whether the key was the one that repeats. Assumes nothing.
 use borrow.Author.Needs.{needs}
-use Rattle.keying.specs.Moves.{keysFrom}
+use Rattle.keying.specs.Changes.{keysFrom}
 use Rattle.keying.proofs.Changes.{repeating-let-go, other-let-go}
 use Rattle.keying.proofs.let_go.Statement.{statement}
 use Rattle.keying.proofs.let_go.Tie as tie

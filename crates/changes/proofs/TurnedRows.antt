@@ -16,7 +16,7 @@ use Rattle.contacts.specs.Scans.{contactIn}
 use Rattle.contacts.proofs.Bytes.{row-same}
 use Rattle.record.specs.declared.Mode.{Mode}
 use Rattle.record.specs.Views.{Keys}
-use Rattle.keying.specs.Moves.{moved, turned, rowsTo}
+use Rattle.keying.specs.Changes.{moved, turned, rowsTo}
 
 -- The rows below a row in which a byte has a 1, the lowest first, and all its rows that have one.
 rowsBelow : ℕ → ℕ → List ℕ

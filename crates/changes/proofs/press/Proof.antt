@@ -1,15 +1,15 @@
--- `moves::press` meets its contract: the key is the one that repeats, if it may, else none does. Assumes nothing.
+-- `changes::press` meets its contract: the key is the one that repeats, if it may, else none does. Assumes nothing.
 use Prim.Native.Nat.{_≤_}
 use native.Mathlib.Omega.{arith}
 use borrow.Author.Needs.{needs}
 use Rattle.queue.specs.Queues.{queueWith}
 use Rattle.range.proofs.Ranges.{good-mode-rate, good-keys-queue}
 use Rattle.sending.specs.Sending.{sends}
-use Rattle.keying.specs.Moves.{keysFrom}
+use Rattle.keying.specs.Changes.{keysFrom}
 use Rattle.keying.proofs.Good.{queued-short}
 use Rattle.keying.proofs.Changes.{pressed-to-repeat, pressed-once}
-use Rattle.moves.proofs.press.Statement.{statement}
-use Rattle.moves.proofs.press.Tie as tie
+use Rattle.changes.proofs.press.Statement.{statement}
+use Rattle.changes.proofs.press.Tie as tie
 
 send-press-requires : tie.Need-send-press-requires
 send-press-requires c κs =

@@ -1,9 +1,9 @@
--- `moves::contact_turned` meets its contract: at each return the tests so far decide what the definition gives. Assumes nothing.
+-- `changes::contact_turned` meets its contract: at each return the tests so far decide what the definition gives. Assumes nothing.
 use borrow.Author.Needs.{needs}
 use borrow.Author.Tests.{eq-eqb, ne-eqb}
-use Rattle.keying.specs.Moves.{moved}
-use Rattle.moves.proofs.contact_turned.Statement.{statement}
-use Rattle.moves.proofs.contact_turned.Tie as tie
+use Rattle.keying.specs.Changes.{moved}
+use Rattle.changes.proofs.contact_turned.Statement.{statement}
+use Rattle.changes.proofs.contact_turned.Tie as tie
 
 returns : tie.Need-returns
 unfolding moved

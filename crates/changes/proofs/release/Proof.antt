@@ -1,4 +1,4 @@
--- `moves::release` meets its contract: its bytes are queued, and the key is let go. Assumes nothing.
+-- `changes::release` meets its contract: its bytes are queued, and the key is let go. Assumes nothing.
 use mathlib.Core.Path.{_∙_}
 use Prim.Native.Nat.{_≤_}
 use native.Mathlib.Omega.{arith}
@@ -6,11 +6,11 @@ use borrow.Author.Needs.{needs}
 use Rattle.queue.specs.Queues.{queueWith}
 use Rattle.range.proofs.Ranges.{good-keys-queue}
 use Rattle.sending.specs.Sending.{sends}
-use Rattle.keying.specs.Moves.{keysFrom}
+use Rattle.keying.specs.Changes.{keysFrom}
 use Rattle.keying.proofs.Good.{queued-short}
 use Rattle.keying.proofs.Changes.{released-by-letting-go}
-use Rattle.moves.proofs.release.Statement.{statement}
-use Rattle.moves.proofs.release.Tie as tie
+use Rattle.changes.proofs.release.Statement.{statement}
+use Rattle.changes.proofs.release.Tie as tie
 
 send-release-requires : tie.Need-send-release-requires
 send-release-requires c κs =

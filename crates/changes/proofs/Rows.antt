@@ -10,7 +10,7 @@ use Rattle.contacts.specs.Scans.{contactIn}
 use Rattle.contacts.proofs.Pointwise.{contact-at}
 use Rattle.record.specs.declared.Mode.{Mode}
 use Rattle.record.specs.Views.{Keys}
-use Rattle.keying.specs.Moves.{turned, turnsTo, rowsTo}
+use Rattle.keying.specs.Changes.{turned, turnsTo, rowsTo}
 
 module _ (m : Mode) (types map : List ℕ) where
   -- In a column that is as it was nothing turned.

@@ -1,4 +1,4 @@
--- `moves::turns` meets its contract. The loop's invariant: c is at most 18, and the positions of the columns below c have been
+-- `changes::turns` meets its contract. The loop's invariant: c is at most 18, and the positions of the columns below c have been
 -- looked at. The measure is what is left of the columns. Assumes nothing.
 use Prim.Native.Nat.{_+_, _*_, _-_, _≤_}
 use mathlib.Core.Path.{_≡_, ap, _∙_}
@@ -10,13 +10,13 @@ use Rattle.queue.proofs.Meaning.{tidy-short}
 use Rattle.record.specs.Views.{Keys, keysWith}
 use Rattle.range.specs.Range.{goodKeys}
 use Rattle.range.proofs.Ranges.{good-keys-queue}
-use Rattle.keying.specs.Moves.{keysFrom, turnsTo}
+use Rattle.keying.specs.Changes.{keysFrom, turnsTo}
 use Rattle.keying.proofs.Changes.{keys-from-same}
 use Rattle.keying.proofs.Good.{turns-good}
 use Rattle.keying.proofs.Places.{turns-bytes}
-use Rattle.moves.proofs.Rows.{turns-none, column-stays, column-turns, turns-all}
-use Rattle.moves.proofs.turns.Statement.{statement}
-use Rattle.moves.proofs.turns.Tie as tie
+use Rattle.changes.proofs.Rows.{turns-none, column-stays, column-turns, turns-all}
+use Rattle.changes.proofs.turns.Statement.{statement}
+use Rattle.changes.proofs.turns.Tie as tie
 
 abbrev Inv-loop : tie.InvT-loop
 Inv-loop held₀ m types map was is table bytes₀ e₀ c₀ held bytes e c =

@@ -1,4 +1,4 @@
--- `moves::column` meets its contract. The loop's invariant: the rows left are a byte, the keys are in range, and moving the rows
+-- `changes::column` meets its contract. The loop's invariant: the rows left are a byte, the keys are in range, and moving the rows
 -- left makes of them what all rows make of the keys at first. The measure is the byte of the rows left. Assumes nothing.
 use Prim.Native.Nat.{_<_}
 use mathlib.Core.Path.{_≡_, ap, _∙_}
@@ -11,12 +11,12 @@ use Rattle.basics.proofs.Limits.{up-to-at}
 use Rattle.keys.specs.Keys.{lastKey}
 use Rattle.record.specs.Views.{Keys}
 use Rattle.range.specs.Range.{goodKeys}
-use Rattle.keying.specs.Moves.{keysFrom, rowsTo}
+use Rattle.keying.specs.Changes.{keysFrom, rowsTo}
 use Rattle.keying.proofs.Good.{moved-good}
 use Rattle.keying.proofs.Places.{moved-bytes}
-use Rattle.moves.proofs.TurnedRows.{rowsIn, onRows, lowest-small, fewer, rows-are, row-moved, rows-done}
-use Rattle.moves.proofs.column.Statement.{statement}
-use Rattle.moves.proofs.column.Tie as tie
+use Rattle.changes.proofs.TurnedRows.{rowsIn, onRows, lowest-small, fewer, rows-are, row-moved, rows-done}
+use Rattle.changes.proofs.column.Statement.{statement}
+use Rattle.changes.proofs.column.Tie as tie
 
 abbrev Inv-loop : tie.InvT-loop
 Inv-loop held₀ bytes₀ table m types map c was is e₀ turned₀ held bytes e turned =

@@ -21,7 +21,7 @@ ghost use Rattle.basics.specs.Lists.{allUpTo};
 ghost use Rattle.keys.specs.Keys.{laidOut, lastKey};
 ghost use Rattle.record.specs.Views.{keysWith};
 ghost use Rattle.range.specs.Range.{goodKeys, goodMode};
-ghost use Rattle.keying.specs.Moves.{keysFrom, pressed, released, moved, turnsTo, rowsTo};
+ghost use Rattle.keying.specs.Changes.{keysFrom, pressed, released, moved, turnsTo, rowsTo};
 
 // A key is pressed.
 fn press(
