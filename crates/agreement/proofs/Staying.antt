@@ -12,7 +12,7 @@ use Rattle.basics.proofs.Cases.{picked}
 use Rattle.dock.specs.declared.Answer.the-variants.{Accepted, MapLength, MapEntry, MapDouble}
 use Rattle.dock.specs.Answers.{answered}
 use Rattle.dock.specs.Closing.{closing, withHanded}
-use Rattle.dock.specs.Read.{remembering, read, readOf}
+use Rattle.dock.specs.Read.{remembering, readOf}
 use Rattle.dock.specs.Scan.{counting, changed, repeating, heardScan, scanOf}
 use Rattle.dock.specs.Swap.{opened, remapped, swapped, swapOf}
 use Rattle.keying.specs.Handover.{handedOver}

@@ -29,7 +29,7 @@ use Rattle.dock.specs.Closing.{closing}
 use Rattle.dock.specs.Scan.{counting, changed, quiet, repeating, heardScan, scanOf}
 use Rattle.dock.specs.Swap.{opened, remapped, swapOf}
 use Rattle.dock.specs.Frame.{frameOf}
-use Rattle.dock.specs.Read.{withoutOldest, repliesBehind, remembering, read, readOf}
+use Rattle.dock.specs.Read.{withoutOldest, repliesBehind, remembering, readOf}
 use Rattle.dock.proofs.Calls.{scan-keeps, swap-keeps, frame-keeps, read-keeps}
 
 -- The end of every accepted call.

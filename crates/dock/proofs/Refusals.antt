@@ -15,7 +15,7 @@ use Rattle.dock.specs.Answers.{isAccepted, givenSays, takenSays, answere
 use Rattle.dock.specs.Scan.{scanOf}
 use Rattle.dock.specs.Swap.{swapOf}
 use Rattle.dock.specs.Frame.{frameOf}
-use Rattle.dock.specs.Read.{replyTaken, keyByteTaken, read, readOf}
+use Rattle.dock.specs.Read.{replyTaken, keyByteTaken, readOf}
 use Rattle.dock.proofs.Calls.{by-scan, by-swap, by-frame, by-read}
 
 module _ (d : Dock) where

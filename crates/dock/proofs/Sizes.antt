@@ -19,7 +19,7 @@ use Rattle.dock.specs.Closing.{closing}
 use Rattle.dock.specs.Scan.{counting, changed, repeating, heardScan, scanOf}
 use Rattle.dock.specs.Swap.{opened, remapped, swapOf}
 use Rattle.dock.specs.Frame.{frameOf}
-use Rattle.dock.specs.Read.{remembering, read, readOf}
+use Rattle.dock.specs.Read.{remembering, readOf}
 use Rattle.dock.proofs.Calls.{scan-keeps, swap-keeps, frame-keeps, read-keeps}
 
 pub record Sizes (d : Dock) : Type 0 where

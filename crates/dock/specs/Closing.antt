@@ -3,7 +3,7 @@ use Rattle.basics.specs.Choice.{pick}
 use Rattle.keying.specs.Handover.{Handed, handedOver}
 use Rattle.record.specs.declared.Dock.{Dock}
 use Rattle.record.specs.Views.{keysOf}
-use Rattle.record.specs.Parts.{withHandover, withKeys, dockWith}
+use Rattle.record.specs.Parts.{withKeys, withHandover}
 
 -- The record with the keys that were handed over, and the handover as far as it got.
 abbrev pub withHanded : Dock → Handed → Dock

@@ -2,7 +2,6 @@
 -- goes on. Assumes nothing.
 use Prim.Native.Nat.{ℕ}
 use mathlib.Core.Path.{_≡_, ap}
-use mathlib.Core.Bool.{Bool}
 use mathlib.Core.List.{List}
 use Rattle.basics.proofs.Once.{one-answer}
 use Rattle.record.specs.Views.{Keys}

@@ -4,11 +4,11 @@ use mathlib.Core.Bool.{true, false}
 use mathlib.Core.List.{[]}
 use lib.Dec.{eqb, leb}
 use Rattle.basics.specs.Choice.{pick, both}
-use Rattle.contacts.specs.Counts.{contacts, unseen}
+use Rattle.contacts.specs.Counts.{unseen}
 use Rattle.dock.specs.Frame.{frameOf}
 use Rattle.frames.specs.Frames.{packedOf}
 use Rattle.queue.specs.Queues.{waiting, queueOf}
-use Rattle.record.specs.Views.{withQueue, keysOf, keys, contactsOf}
+use Rattle.record.specs.Views.{withQueue, keysOf, contactsOf}
 use Rattle.record.specs.Parts.{withWaiting, withMode, withContacts, withScanning, withKeys, withMap, withHandover}
 use Rattle.record.specs.Power.{plainMap}
 use Rattle.record.specs.declared.Dock.{Dock}

@@ -12,7 +12,7 @@ use Rattle.dock.specs.Scan.{listening, counting, repeating, scanOf}
 use Rattle.keying.specs.Repeat.{ticked}
 use Rattle.phantom.specs.Phantom.{isPhantom}
 use Rattle.queue.specs.Queues.{waiting, queueOf, hasRoom}
-use Rattle.record.specs.Views.{keysOf, keys, withQueue, withRepeat}
+use Rattle.record.specs.Views.{keysOf, withQueue, withRepeat}
 use Rattle.record.specs.Parts.{withWaiting, withScanning, withHandover, withKeys, withContacts}
 use Rattle.record.specs.declared.Dock.{Dock}
 use Rattle.runs.specs.Machines.{Machine}

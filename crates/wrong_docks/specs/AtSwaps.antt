@@ -6,7 +6,6 @@ use lib.Dec.{eqb}
 use lib.ListN.{length, replicate}
 use Rattle.basics.specs.Choice.{pick, both, either}
 use Rattle.basics.specs.Lists.{allUpTo}
-use Rattle.contacts.specs.Counts.{contacts}
 use Rattle.dock.specs.Answers.{taken}
 use Rattle.dock.specs.Closing.{closing}
 use Rattle.dock.specs.Frame.{frameOf}
