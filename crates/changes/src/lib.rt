@@ -33,8 +33,13 @@ fn press(
     kind: u8,
     key: u8,
 ) -> OutgoingRest
-    requires { ⌜ (goodKeys (keysFrom (now held) (now bytes) rest) ≡ true) × (goodMode mode ≡ true) × (length (now bytes) ≡ 16) × (key < 144)
-        × (now table ≡ laidOut) ⌝ }
+    requires { ⌜ record {
+      keys : goodKeys (keysFrom (now held) (now bytes) rest) ≡ true;
+      mode : goodMode mode ≡ true;
+      places : length (now bytes) ≡ 16;
+      number : key < 144;
+      laid : now table ≡ laidOut;
+    } ⌝ }
     ensures { λ r. ⌜ keysFrom (now (held .exit)) (now (bytes .exit)) r
         ≡ pressed (keysFrom (now (held .entry)) (now (bytes .entry)) rest) mode kind key ⌝ }
 {
@@ -61,8 +66,13 @@ fn release(
     kind: u8,
     key: u8,
 ) -> OutgoingRest
-    requires { ⌜ (goodKeys (keysFrom (now held) (now bytes) rest) ≡ true) × (goodMode mode ≡ true) × (length (now bytes) ≡ 16) × (key < 144)
-        × (now table ≡ laidOut) ⌝ }
+    requires { ⌜ record {
+      keys : goodKeys (keysFrom (now held) (now bytes) rest) ≡ true;
+      mode : goodMode mode ≡ true;
+      places : length (now bytes) ≡ 16;
+      number : key < 144;
+      laid : now table ≡ laidOut;
+    } ⌝ }
     ensures { λ r. ⌜ keysFrom (now (held .exit)) (now (bytes .exit)) r
         ≡ released (keysFrom (now (held .entry)) (now (bytes .entry)) rest) mode kind key ⌝ }
 {
@@ -86,8 +96,13 @@ fn contact_turned(
     key: u8,
     closed: u8,
 ) -> OutgoingRest
-    requires { ⌜ (goodKeys (keysFrom (now held) (now bytes) rest) ≡ true) × (goodMode mode ≡ true) × (length (now bytes) ≡ 16) × (key ≤ lastKey)
-        × (now table ≡ laidOut) ⌝ }
+    requires { ⌜ record {
+      keys : goodKeys (keysFrom (now held) (now bytes) rest) ≡ true;
+      mode : goodMode mode ≡ true;
+      places : length (now bytes) ≡ 16;
+      number : key ≤ lastKey;
+      laid : now table ≡ laidOut;
+    } ⌝ }
     ensures { λ r. ⌜ keysFrom (now (held .exit)) (now (bytes .exit)) r
         ≡ moved (keysFrom (now (held .entry)) (now (bytes .entry)) rest) mode (now (types .entry)) key closed ⌝ }
 {
@@ -114,8 +129,14 @@ fn column(
     was: u8,
     is: u8,
 ) -> OutgoingRest
-    requires { ⌜ (goodKeys (keysFrom (now held) (now bytes) rest) ≡ true) × (goodMode mode ≡ true) × (length (now bytes) ≡ 16) × (c < 18)
-        × (allUpTo lastKey (now map) ≡ true) × (now table ≡ laidOut) ⌝ }
+    requires { ⌜ record {
+      keys : goodKeys (keysFrom (now held) (now bytes) rest) ≡ true;
+      mode : goodMode mode ≡ true;
+      places : length (now bytes) ≡ 16;
+      column : c < 18;
+      entries : allUpTo lastKey (now map) ≡ true;
+      laid : now table ≡ laidOut;
+    } ⌝ }
     ensures { λ r. ⌜ keysFrom (now (held .exit)) (now (bytes .exit)) r
         ≡ rowsTo 8 mode (now (types .entry)) (now (map .entry)) c was is (keysFrom (now (held .entry)) (now (bytes .entry)) rest) ⌝ }
 {
@@ -148,7 +169,11 @@ pub fn turns(
     was: &Columns,
     is: &Columns,
 ) -> Outgoing
-    requires { ⌜ (goodKeys (keysWith (now held) outgoing) ≡ true) × (goodMode mode ≡ true) × (allUpTo lastKey (now map) ≡ true) ⌝ }
+    requires { ⌜ record {
+      keys : goodKeys (keysWith (now held) outgoing) ≡ true;
+      mode : goodMode mode ≡ true;
+      entries : allUpTo lastKey (now map) ≡ true;
+    } ⌝ }
     ensures { λ r. ⌜ keysWith (now (held .exit)) r
         ≡ turnsTo 144 mode (now (types .entry)) (now (map .entry)) (now (was .entry)) (now (is .entry)) (keysWith (now (held .entry)) outgoing) ⌝ }
 {

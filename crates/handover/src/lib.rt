@@ -30,7 +30,11 @@ fn release_with(
     key: u8,
     sequence: Sequence,
 ) -> OutgoingRest
-    requires { ⌜ (goodKeys (keysFrom (now held) (now bytes) rest) ≡ true) × (key < 144) × (sequence .length ≤ 8) ⌝ }
+    requires { ⌜ record {
+      keys : goodKeys (keysFrom (now held) (now bytes) rest) ≡ true;
+      number : key < 144;
+      short : sequence .length ≤ 8;
+    } ⌝ }
     ensures { λ r. ⌜ keysFrom (now (held .exit)) (now (bytes .exit)) r
         ≡ releasedWith (keysFrom (now (held .entry)) (now (bytes .entry)) rest) mode key (contents sequence) ⌝ }
 {
@@ -63,7 +67,7 @@ fn handed(bytes: [u8; 16], rest: OutgoingRest, unfinished: bool) -> HandedRest
 
 // A handover goes on as far as the queue has room.
 pub fn hand_over(held: &mut Held, outgoing: Outgoing, mode: Mode, types: &Types) -> HandedRest
-    requires { ⌜ (goodKeys (keysWith (now held) outgoing) ≡ true) × (goodMode mode ≡ true) ⌝ }
+    requires { ⌜ record { keys : goodKeys (keysWith (now held) outgoing) ≡ true; mode : goodMode mode ≡ true } ⌝ }
     ensures { λ r. ⌜ handedWith (now (held .exit)) r ≡ handedOver (keysWith (now (held .entry)) outgoing) mode (now (types .entry)) ⌝ }
 {
     let queue = outgoing.queue;

@@ -41,7 +41,7 @@ pub fn tick(outgoing: Outgoing) -> Outgoing
 
 // A repeat that is due is sent if nothing waits. No flag changes.
 pub fn repeat(held: &Held, outgoing: Outgoing, mode: Mode, types: &Types, quiet: bool) -> Outgoing
-    requires { ⌜ (goodKeys (keysWith (now held) outgoing) ≡ true) × (goodMode mode ≡ true) ⌝ }
+    requires { ⌜ record { keys : goodKeys (keysWith (now held) outgoing) ≡ true; mode : goodMode mode ≡ true } ⌝ }
     ensures { λ r. ⌜ keysWith (now (held .entry)) r ≡ repeated (keysWith (now (held .entry)) outgoing) mode (now (types .entry)) quiet ⌝ }
 {
     let key = outgoing.repeating;

@@ -47,7 +47,7 @@ pub fn fits(count: usize, sequence: Sequence) -> bool
 
 // The last of the bytes that wait is replaced by the mark. Of these bytes the first `at` wait, and one at least.
 pub fn mark_last(bytes: &mut [u8; 16], at: usize, mark: u8)
-    requires { ⌜ (tidy (queueWith (now bytes) at) ≡ true) × (length (now bytes) ≡ 16) × (1 ≤ at) ⌝ }
+    requires { ⌜ record { tidied : tidy (queueWith (now bytes) at) ≡ true; places : length (now bytes) ≡ 16; some : 1 ≤ at } ⌝ }
     ensures { λ r. ⌜ queueWith (now (bytes .exit)) at ≡ queueOf (lastReplaced mark (waiting (queueWith (now (bytes .entry)) at))) ⌝ }
 {
     bytes[at - 1] = mark;

@@ -125,7 +125,11 @@ pub fn send_press(
     kind: u8,
     key: u8,
 ) -> usize
-    requires { ⌜ (tidy (queueWith (now bytes) at) ≡ true) × (length (now bytes) ≡ 16) × (now table ≡ laidOut) ⌝ }
+    requires { ⌜ record {
+      tidied : tidy (queueWith (now bytes) at) ≡ true;
+      places : length (now bytes) ≡ 16;
+      laid : now table ≡ laidOut;
+    } ⌝ }
     ensures { λ r. ⌜ queueWith (now (bytes .exit)) r
         ≡ queuedOf (queueWith (now (bytes .entry)) at) mode (sendsWith (now (held .entry)) mode kind key Press) ⌝ }
 {
@@ -147,7 +151,12 @@ pub fn send_release(
     kind: u8,
     key: u8,
 ) -> usize
-    requires { ⌜ (tidy (queueWith (now bytes) at) ≡ true) × (length (now bytes) ≡ 16) × (goodMode mode ≡ true) × (now table ≡ laidOut) ⌝ }
+    requires { ⌜ record {
+      tidied : tidy (queueWith (now bytes) at) ≡ true;
+      places : length (now bytes) ≡ 16;
+      mode : goodMode mode ≡ true;
+      laid : now table ≡ laidOut;
+    } ⌝ }
     ensures { λ r. ⌜ queueWith (now (bytes .exit)) r
         ≡ queuedOf (queueWith (now (bytes .entry)) at) mode (sendsWith (now (held .entry)) mode kind key Release) ⌝ }
 {

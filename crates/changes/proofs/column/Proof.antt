@@ -35,7 +35,7 @@ loop-holds : tie.Need-loop-holds Inv-loop μ-loop
 loop-holds c =
     let a = c .args in
     let all = rows-are (a .mode) (a .types .now) (a .map .now) (a .c) (a .is) (a .was) (keysFrom (a .held .now) (a .bytes .now) (a .rest)) in
-    (xor-lt 8 (a .was) (a .is) (omega arith) (omega arith), c .pre .0, c .pre .2, all)
+    (xor-lt 8 (a .was) (a .is) (omega arith) (omega arith), c .pre .keys, c .pre .places, all)
 
 cast-r : tie.Need-cast-r Inv-loop μ-loop
 cast-r c = omega (arith, trailing-le 32 (c .before .loop .turned))
@@ -60,7 +60,7 @@ contact-turned-requires : tie.Need-contact-turned-requires Inv-loop μ-loop
 contact-turned-requires c κs =
     let l = c .before .before .before .before in
     let p = l .before .pre in
-    (l .loop .inv .1, p .1, l .loop .inv .2, up-to-at lastKey _ _ (p .4), p .5)
+    record { keys = l .loop .inv .1; mode = p .mode; places = l .loop .inv .2; number = up-to-at lastKey _ _ (p .entries); laid = p .laid }
 
 loop-less : tie.Need-loop-less Inv-loop μ-loop
 loop-less c = fewer (c .before .before .before .before .before .loop .turned) (omega arith)
@@ -74,8 +74,8 @@ loop-again c =
     let i = l .loop .inv in
     let e = keysFrom (l .loop .held) (l .loop .bytes) (l .loop .after) in
     let after = c .contact-turned .ensures in
-    let good = ap goodKeys after ∙ moved-good (a .mode) (p .1) (a .types .now) _ _ (up-to-at lastKey _ _ (p .4)) e (i .1) in
-    let places = ap (λ (k : Keys). length (k .queue .bytes)) after ∙ moved-bytes (a .mode) (a .types .now) _ _ (up-to-at lastKey _ _ (p .4)) e (i .2) in
+    let good = ap goodKeys after ∙ moved-good (a .mode) (p .mode) (a .types .now) _ _ (up-to-at lastKey _ _ (p .entries)) e (i .1) in
+    let places = ap (λ (k : Keys). length (k .queue .bytes)) after ∙ moved-bytes (a .mode) (a .types .now) _ _ (up-to-at lastKey _ _ (p .entries)) e (i .2) in
     (omega (arith, fewer t (omega arith)), good, places, row-moved _ _ _ _ _ _ e t (i .3) (omega arith) (i .0) _ after)
 
 returns : tie.Need-returns Inv-loop μ-loop

@@ -15,18 +15,18 @@ send-press-requires : tie.Need-send-press-requires
 send-press-requires c κs =
     let s = c .before .before .before in
     let a = s .args in
-    (good-keys-queue (keysFrom (a .held .now) (a .bytes .now) (a .rest)) (s .pre .0), s .pre .2, s .pre .4)
+    record { tidied = good-keys-queue (keysFrom (a .held .now) (a .bytes .now) (a .rest)) (s .pre .keys); places = s .pre .places; laid = s .pre .laid }
 
 cast-after : tie.Need-cast-after
 cast-after c =
     let s = c .before .before .before .before in
     let a = s .args in
     let k = keysFrom (a .held .now) (a .bytes .now) (a .rest) in
-    let few : c .send-press .result ≤ 16 = queued-short (queueWith _ (c .send-press .result)) (k .queue) _ _ (c .send-press .ensures) (good-keys-queue k (s .pre .0)) in
+    let few : c .send-press .result ≤ 16 = queued-short (queueWith _ (c .send-press .result)) (k .queue) _ _ (c .send-press .ensures) (good-keys-queue k (s .pre .keys)) in
     omega arith
 
 delay-of-requires : tie.Need-delay-of-requires
-delay-of-requires c κs = good-mode-rate _ (c .before .before .before .before .before .before .before .before .pre .1)
+delay-of-requires c κs = good-mode-rate _ (c .before .before .before .before .before .before .before .before .pre .mode)
 
 returns : tie.Need-returns
 unfolding sends

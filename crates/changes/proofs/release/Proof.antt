@@ -16,14 +16,14 @@ send-release-requires : tie.Need-send-release-requires
 send-release-requires c κs =
     let s = c .before .before .before in
     let a = s .args in
-    (good-keys-queue (keysFrom (a .held .now) (a .bytes .now) (a .rest)) (s .pre .0), s .pre .2, s .pre .1, s .pre .4)
+    record { tidied = good-keys-queue (keysFrom (a .held .now) (a .bytes .now) (a .rest)) (s .pre .keys); places = s .pre .places; mode = s .pre .mode; laid = s .pre .laid }
 
 cast-length : tie.Need-cast-length
 cast-length c =
     let s = c .before .before .before .before in
     let a = s .args in
     let k = keysFrom (a .held .now) (a .bytes .now) (a .rest) in
-    let few : c .send-release .result ≤ 16 = queued-short (queueWith _ (c .send-release .result)) (k .queue) _ _ (c .send-release .ensures) (good-keys-queue k (s .pre .0)) in
+    let few : c .send-release .result ≤ 16 = queued-short (queueWith _ (c .send-release .result)) (k .queue) _ _ (c .send-release .ensures) (good-keys-queue k (s .pre .keys)) in
     omega arith
 
 returns : tie.Need-returns

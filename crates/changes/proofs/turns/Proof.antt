@@ -28,7 +28,7 @@ abbrev μ-loop : tie.MeasureT-loop
 cast-t14 : tie.Need-cast-t14 Inv-loop μ-loop
 cast-t14 c =
     let s = c .before .before .before .before in
-    omega (arith, tidy-short _ (good-keys-queue (keysWith (s .args .held .now) (s .args .outgoing)) (s .pre .0)))
+    omega (arith, tidy-short _ (good-keys-queue (keysWith (s .args .held .now) (s .args .outgoing)) (s .pre .keys)))
 
 loop-holds : tie.Need-loop-holds Inv-loop μ-loop
 loop-holds c =
@@ -43,10 +43,10 @@ column-requires c κs =
     let p = s .pre in
     let a = s .args in
     let k = keysWith (a .held .now) (a .outgoing) in
-    let good = ap goodKeys (l .loop .inv .2) ∙ turns-good (a .mode) (p .1) (a .types .now) (a .map .now) (p .2) _ (a .was .now) (a .is .now) k (p .0) in
+    let good = ap goodKeys (l .loop .inv .2) ∙ turns-good (a .mode) (p .mode) (a .types .now) (a .map .now) (p .entries) _ (a .was .now) (a .is .now) k (p .keys) in
     let kept = ap (λ (x : Keys). length (x .queue .bytes)) (l .loop .inv .2)
-    ∙ turns-bytes (a .mode) (a .types .now) (a .map .now) (p .2) _ (a .was .now) (a .is .now) k (l .loop .inv .1) in
-    (good, p .1, kept, t .loop-test .taken, p .2, l .before .before .before .before .table .ensures)
+    ∙ turns-bytes (a .mode) (a .types .now) (a .map .now) (p .entries) _ (a .was .now) (a .is .now) k (l .loop .inv .1) in
+    record { keys = good; mode = p .mode; places = kept; column = t .loop-test .taken; entries = p .entries; laid = l .before .before .before .before .table .ensures }
 
 loop-again : tie.Need-loop-again Inv-loop μ-loop
 loop-again c =

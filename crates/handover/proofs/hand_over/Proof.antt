@@ -31,13 +31,13 @@ abbrev μ-loop : tie.MeasureT-loop
 cast-t10 : tie.Need-cast-t10 Inv-loop μ-loop
 cast-t10 c =
     let b = c .before .before .before in
-    omega (arith, tidy-short _ (good-keys-queue (keysWith (b .args .held .now) (b .args .outgoing)) (b .pre .0)))
+    omega (arith, tidy-short _ (good-keys-queue (keysWith (b .args .held .now) (b .args .outgoing)) (b .pre .keys)))
 
 loop-holds : tie.Need-loop-holds Inv-loop μ-loop
 loop-holds c =
     let s = c .before .before .before in
     let places : length (s .args .outgoing .queue .bytes) ≡ 16 = search needs in
-    (omega arith, begins _ _ (keysWith (s .args .held .now) (s .args .outgoing)) (s .pre .0) places)
+    (omega arith, begins _ _ (keysWith (s .args .held .now) (s .args .outgoing)) (s .pre .keys) places)
 
 fits-requires : tie.Need-fits-requires Inv-loop μ-loop
 unfolding sends
@@ -65,7 +65,7 @@ release-with-requires c κs =
     let b = c .before .before .before .before .before in
     let l = b .before .before .before .before .before .before .before in
     let k = keysFrom (l .loop .held) (l .loop .bytes) (l .loop .after) in
-    (l .loop .inv .1 .good, omega arith, sequence-short k (l .before .before .before .before .args .mode) _ _ Release _ (b .bytes-of .ensures))
+    record { keys = l .loop .inv .1 .good; number = omega arith; short = sequence-short k (l .before .before .before .before .args .mode) _ _ Release _ (b .bytes-of .ensures) }
 
 loop-again : tie.Need-loop-again Inv-loop μ-loop
 unfolding sends

@@ -15,7 +15,7 @@ push-requires : tie.Need-push-requires
 push-requires c κs =
     let s = c .before .before .before .before in
     let a = s .args in
-    (good-keys-queue (keysFrom (a .held .now) (a .bytes .now) (a .rest)) (s .pre .0), s .pre .2)
+    (good-keys-queue (keysFrom (a .held .now) (a .bytes .now) (a .rest)) (s .pre .keys), s .pre .short)
 
 cast-after : tie.Need-cast-after
 cast-after c =
@@ -23,7 +23,7 @@ cast-after c =
     let a = s .args in
     let k = keysFrom (a .held .now) (a .bytes .now) (a .rest) in
     let queued = pushed-queued (k .queue) (queueWith _ (c .push .result)) (a .mode) _ _ (c .before .mark-of .ensures) (c .push .ensures) in
-    let few : c .push .result ≤ 16 = queued-short _ (k .queue) _ _ queued (good-keys-queue k (s .pre .0)) in
+    let few : c .push .result ≤ 16 = queued-short _ (k .queue) _ _ queued (good-keys-queue k (s .pre .keys)) in
     omega arith
 
 returns : tie.Need-returns

@@ -21,7 +21,7 @@ sub-if1 : tie.Need-sub-if1 Inv-loop μ-loop
 sub-if1 c = omega (arith, tidy-short _ (c .pre .0))
 
 mark-last-requires : tie.Need-mark-last-requires Inv-loop μ-loop
-mark-last-requires c κs = (c .before .before .pre .0, search needs, omega arith)
+mark-last-requires c κs = record { tidied = c .before .before .pre .0; places = search needs; some = omega arith }
 
 returns : tie.Need-returns Inv-loop μ-loop
 returns c =

@@ -9,7 +9,7 @@ use Rattle.scan.proofs.repeat_when_quiet.Tie as tie
 repeat-requires : tie.Need-repeat-requires
 repeat-requires c κs =
     let s = c .before .before .before .before .before .before in
-    (good-rest-outgoing (s .args .rest) (s .pre), good-rest-mode (s .args .rest) (s .pre))
+    record { keys = good-rest-outgoing (s .args .rest) (s .pre); mode = good-rest-mode (s .args .rest) (s .pre) }
 
 returns : tie.Need-returns
 returns c = λ map closed counts.

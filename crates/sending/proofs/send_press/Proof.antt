@@ -14,14 +14,14 @@ use Rattle.sending.proofs.send_press.Tie as tie
 mark-last-requires : tie.Need-mark-last-requires
 mark-last-requires c κs =
     let s = c .before .before .before .before in
-    (s .pre .0, s .pre .1, omega arith)
+    record { tidied = s .pre .tidied; places = s .pre .places; some = omega arith }
 
 returns : tie.Need-returns
 returns c =
     let t = c .before .before .before .before in
     let s = t .before in
     let a = s .args in
-    no-room-marks (a .bytes .now) (a .at) (a .mode) _ (s .pre .0) (s .pre .1) _ (c .before .mark-of .ensures) _ (c .mark-last .ensures)
+    no-room-marks (a .bytes .now) (a .at) (a .mode) _ (s .pre .tidied) (s .pre .places) _ (c .before .mark-of .ensures) _ (c .mark-last .ensures)
     (past-full _ _ (t .if1 .taken) (press-some (a .mode .set) (a .key) (a .kind) (modifiersOf (a .held .now)) (numLock (a .mode .indicators))))
 
 push-requires : tie.Need-push-requires
@@ -30,7 +30,7 @@ push-requires c κs =
     let s = c .before .before .before .before .before in
     let a = s .args in
     let k = keys (a .held .now) (queueWith (a .bytes .now) (a .at)) 0 0 in
-    (s .pre .0, sequence-short k (a .mode) (a .kind) (a .key) Press _ (c .before .before .before .bytes-in .ensures))
+    (s .pre .tidied, sequence-short k (a .mode) (a .kind) (a .key) Press _ (c .before .before .before .bytes-in .ensures))
 
 returns-2 : tie.Need-returns-2
 unfolding sends
@@ -38,7 +38,7 @@ returns-2 c =
     let s = c .before .before .before .before .before .before in
     let a = s .args in
     let k = keys (a .held .now) (queueWith (a .bytes .now) (a .at)) 0 0 in
-    pushed-queues (a .bytes .now) (a .at) (a .mode) _ (s .pre .0) (s .pre .1) _ (c .before .mark-of2 .ensures) _ _
+    pushed-queues (a .bytes .now) (a .at) (a .mode) _ (s .pre .tidied) (s .pre .places) _ (c .before .mark-of2 .ensures) _ _
     (sequence-is k (a .mode) (a .kind) (a .key) Press _ (c .before .before .before .before .bytes-in .ensures)) (c .push .ensures)
 
 pub send-press-spec : {M : Type 1} → statement M

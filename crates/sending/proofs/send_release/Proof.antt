@@ -14,23 +14,23 @@ use Rattle.sending.proofs.send_release.Statement.{statement}
 use Rattle.sending.proofs.send_release.Tie as tie
 
 is-silent-requires : tie.Need-is-silent-requires
-is-silent-requires c κs = good-mode-set _ (c .pre .2)
+is-silent-requires c κs = good-mode-set _ (c .pre .mode)
 
 returns : tie.Need-returns
 returns c =
     let s = c .before .before in
     let a = s .args in
-    nothing-queued (a .bytes .now) (a .at) (a .mode) _ (s .pre .0) (s .pre .1)
+    nothing-queued (a .bytes .now) (a .at) (a .mode) _ (s .pre .tidied) (s .pre .places)
     (release-none (a .mode .set) (a .key) (a .kind) (modifiersOf (a .held .now)) (numLock (a .mode .indicators)) _ (c .before .is-silent .ensures) (c .if1 .taken))
 
 sub-if2 : tie.Need-sub-if2
-sub-if2 c = tidy-short _ (c .before .before .pre .0)
+sub-if2 c = tidy-short _ (c .before .before .pre .tidied)
 
 mark-last-requires : tie.Need-mark-last-requires
 mark-last-requires c κs =
     let t = c .before .before .before in
     let s = t .before .before .before .before in
-    (s .pre .0, s .pre .1, little-room (s .args .mode .set) _ _ (t .before .shortest-release .ensures) (t .if2 .taken))
+    record { tidied = s .pre .tidied; places = s .pre .places; some = little-room (s .args .mode .set) _ _ (t .before .shortest-release .ensures) (t .if2 .taken) }
 
 returns-2 : tie.Need-returns-2
 returns-2 c =
@@ -40,7 +40,7 @@ returns-2 c =
     let a = s .args in
     let least = t .before .shortest-release .ensures in
     let long = release-long (a .mode .set) (a .key) (a .kind) (modifiersOf (a .held .now)) (numLock (a .mode .indicators)) _ (e .before .is-silent .ensures) (e .if1 .left) in
-    no-room-marks (a .bytes .now) (a .at) (a .mode) _ (s .pre .0) (s .pre .1) _ (c .before .mark-of .ensures) _ (c .mark-last .ensures)
+    no-room-marks (a .bytes .now) (a .at) (a .mode) _ (s .pre .tidied) (s .pre .places) _ (c .before .mark-of .ensures) _ (c .mark-last .ensures)
     (too-long (a .mode .set) _ _ _ least long (t .if2 .taken))
 
 push-requires : tie.Need-push-requires
@@ -49,7 +49,7 @@ push-requires c κs =
     let s = c .before .before .before .before .before .before .before .before in
     let a = s .args in
     let k = keys (a .held .now) (queueWith (a .bytes .now) (a .at)) 0 0 in
-    (s .pre .0, sequence-short k (a .mode) (a .kind) (a .key) Release _ (c .before .before .before .bytes-in .ensures))
+    (s .pre .tidied, sequence-short k (a .mode) (a .kind) (a .key) Release _ (c .before .before .before .bytes-in .ensures))
 
 returns-3 : tie.Need-returns-3
 unfolding sends
@@ -57,7 +57,7 @@ returns-3 c =
     let s = c .before .before .before .before .before .before .before .before .before in
     let a = s .args in
     let k = keys (a .held .now) (queueWith (a .bytes .now) (a .at)) 0 0 in
-    pushed-queues (a .bytes .now) (a .at) (a .mode) _ (s .pre .0) (s .pre .1) _ (c .before .mark-of2 .ensures) _ _
+    pushed-queues (a .bytes .now) (a .at) (a .mode) _ (s .pre .tidied) (s .pre .places) _ (c .before .mark-of2 .ensures) _ _
     (sequence-is k (a .mode) (a .kind) (a .key) Release _ (c .before .before .before .before .bytes-in .ensures)) (c .push .ensures)
 
 pub send-release-spec : {M : Type 1} → statement M

@@ -9,7 +9,7 @@ use Rattle.dock.proofs.closing.go_on.Tie as tie
 hand-over-requires : tie.Need-hand-over-requires
 hand-over-requires c κs =
     let s = c .before .before .before in
-    (good-rest-outgoing (s .args .rest) (s .pre .0), good-rest-mode (s .args .rest) (s .pre .0))
+    record { keys = good-rest-outgoing (s .args .rest) (s .pre .0); mode = good-rest-mode (s .args .rest) (s .pre .0) }
 
 returns : tie.Need-returns
 returns c = λ map closed counts.

@@ -24,7 +24,7 @@ returns-2 c =
 element-copy-out-kind : tie.Need-element-copy-out-kind
 element-copy-out-kind c =
     let s = c .before .before .before in
-    omega (arith, good-keys-repeating (keysWith (s .args .held .now) (s .args .outgoing)) (s .pre .0))
+    omega (arith, good-keys-repeating (keysWith (s .args .held .now) (s .args .outgoing)) (s .pre .keys))
 
 returns-3 : tie.Need-returns-3
 returns-3 c =
