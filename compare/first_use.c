@@ -122,11 +122,11 @@ static unsigned event_of(uint32_t set, const uint8_t *bytes, int32_t count, unsi
     for (int32_t i = 0; i < count; i++) {
         int32_t answer = keydock_read_byte(set, state, bytes[i]);
         expect(answer >= 0, "the state given can be given back");
-        state = KEYDOCK_STATE(answer);
-        if (KEYDOCK_EVENT(answer) == KEYDOCK_READ_MORE || KEYDOCK_EVENT(answer) == KEYDOCK_READ_WRAPPING)
+        state = KEYDOCK_NEXT_STATE(answer);
+        if (KEYDOCK_FOUND_EVENT(answer) == KEYDOCK_READ_MORE || KEYDOCK_FOUND_EVENT(answer) == KEYDOCK_READ_WRAPPING)
             continue;
-        event = KEYDOCK_EVENT(answer);
-        *key = KEYDOCK_KEY(answer);
+        event = KEYDOCK_FOUND_EVENT(answer);
+        *key = KEYDOCK_FOUND_KEY(answer);
     }
     expect(state == KEYDOCK_STATE_START, "the codes of a key are whole");
     return event;
@@ -150,8 +150,8 @@ static void try_reading(void)
                 else
                     expect(read == events[event] && found == key, "a key reads back");
             }
-    expect(KEYDOCK_EVENT(keydock_read_byte(1, KEYDOCK_STATE_START, 0xFF)) == KEYDOCK_READ_OVERRUN, "FF in set 1");
-    expect(KEYDOCK_EVENT(keydock_read_byte(2, KEYDOCK_STATE_START, 0xFF)) == KEYDOCK_READ_UNKNOWN, "FF in set 2");
+    expect(KEYDOCK_FOUND_EVENT(keydock_read_byte(1, KEYDOCK_STATE_START, 0xFF)) == KEYDOCK_READ_OVERRUN, "FF in set 1");
+    expect(KEYDOCK_FOUND_EVENT(keydock_read_byte(2, KEYDOCK_STATE_START, 0xFF)) == KEYDOCK_READ_UNKNOWN, "FF in set 2");
     expect(keydock_read_byte(2, KEYDOCK_STATE_MAX, 0) >= 0, "the last state is one");
     expect(keydock_read_byte(0, KEYDOCK_STATE_MAX + 1, 0) == KEYDOCK_REFUSED_STATE, "a state past the last");
     expect(keydock_read_byte(0, KEYDOCK_STATE_START, 0) == KEYDOCK_REFUSED_CHOICE, "set 0");

@@ -1,6 +1,17 @@
-/* keydock.h: PS/2 key codes and frames, for the terminal's service program.
+/* keydock.h: a PS/2 keyboard dock, and the codes and frames of PS/2 keyboards.
  *
- *     cc program.c libkeydock.a          (x86-64 Linux)
+ *     cc program.c -lkeydock          (x86-64 Linux)
+ *
+ * A dock, whose record is lent to each call:
+ *
+ *     struct keydock dock;
+ *     keydock_power_on(&dock, sizeof dock);
+ *     for (;;) {
+ *         keydock_scan(&dock, sizeof dock, columns, KEYDOCK_SCAN_SIZE);   240 times a second
+ *         int32_t answer = keydock_read(&dock, sizeof dock);              when the host is ready
+ *         if (KEYDOCK_GIVEN_KIND(answer) != KEYDOCK_GAVE_NOTHING)
+ *             send(keydock_pack_frame(KEYDOCK_GIVEN_BYTE(answer)));
+ *     }
  *
  * What UP sends with the left SHIFT held, each byte with its frame:
  *
@@ -15,22 +26,23 @@
  *     uint32_t state = KEYDOCK_STATE_START;
  *     for (int32_t i = 0; i < count; i++) {
  *         int32_t answer = keydock_read_byte(2, state, bytes[i]);
- *         if (KEYDOCK_EVENT(answer) == KEYDOCK_READ_PRESSED)
- *             printf("key %u was pressed\n", KEYDOCK_KEY(answer));
- *         state = KEYDOCK_STATE(answer);
+ *         if (KEYDOCK_FOUND_EVENT(answer) == KEYDOCK_READ_PRESSED)
+ *             printf("key %u was pressed\n", KEYDOCK_FOUND_KEY(answer));
+ *         state = KEYDOCK_NEXT_STATE(answer);
  *     }
  *
  * Where a result is an int32_t, 0 or more is an answer. A refusal is negative: minus the
  * number that the dock's rules have for it. A refused call changes nothing.
  *
  * Every function of the library is proved to answer for every argument, and tested to answer as
- * said here. So any number may be passed: one that is out of its range is refused. (A negative
- * number becomes a large one on its way to a uint32_t, and a number over 255 loses its upper bits
- * on its way to a uint8_t.) The one thing that no function can look at is whether the memory at
- * `out` is there.
+ * said here. So any number may be passed, and any bytes: what is out of its range is refused. (A
+ * negative number becomes a large one on its way to a uint32_t, and a number over 255 loses its
+ * upper bits on its way to a uint8_t.) Two things no function can look at: whether memory that is
+ * lent is there, as long as the argument behind it says, and whether two parts of it overlap. A
+ * record must not overlap the scan or map that is passed with it.
  *
  * Nothing is kept between calls and nothing is allocated. All functions may be called from
- * any number of threads at once.
+ * any number of threads at once, each record from one at a time.
  */
 #ifndef KEYDOCK_H
 #define KEYDOCK_H
@@ -42,12 +54,70 @@
 extern "C" {
 #endif
 
+#define KEYDOCK_VERSION "1.0.0"
+
 /* Refusals, and the one answer that is negative and no refusal. */
-#define KEYDOCK_REFUSED_FRAME (-5)  /* a frame number over 2047 */
-#define KEYDOCK_REFUSED_OUTPUT (-6) /* a lent output under 8 bytes */
-#define KEYDOCK_REFUSED_CHOICE (-7) /* a set, key, event, type, modifier or Num Lock choice out of its range */
-#define KEYDOCK_REFUSED_STATE (-9)  /* a reader state over 14 */
-#define KEYDOCK_BROKEN_FRAME (-256) /* a frame with a wrong start, parity or stop bit */
+#define KEYDOCK_REFUSED_SCAN_LENGTH (-1) /* a scan that is not 18 bytes */
+#define KEYDOCK_REFUSED_MAP_LENGTH (-2)  /* a map that is not 144 bytes */
+#define KEYDOCK_REFUSED_MAP_ENTRY (-3)   /* a map entry over 104 */
+#define KEYDOCK_REFUSED_MAP_DOUBLE (-4)  /* a key twice in the map */
+#define KEYDOCK_REFUSED_FRAME (-5)       /* a frame number over 2047 */
+#define KEYDOCK_REFUSED_OUTPUT (-6)      /* a lent output under 8 bytes */
+#define KEYDOCK_REFUSED_CHOICE (-7)      /* a set, key, event, type, modifier or Num Lock choice out of its range */
+#define KEYDOCK_REFUSED_RECORD (-9)      /* bytes that are no dock's record */
+#define KEYDOCK_REFUSED_STATE (-9)       /* a reader state over 14 */
+#define KEYDOCK_BROKEN_FRAME (-256)      /* a frame with a wrong start, parity or stop bit */
+
+/* ---- the dock ---- */
+
+#define KEYDOCK_SIZE 585      /* bytes in a record */
+#define KEYDOCK_SCAN_SIZE 18  /* bytes in a scan: one for each column */
+#define KEYDOCK_MAP_SIZE 144  /* bytes in a panel's map: one for each position */
+
+/* The record of a dock: all that it knows. It may lie in any memory, and may be copied, stored and
+ * loaded as any bytes may. What stands where in it is the library's own affair. Each call is also
+ * given the record's size, sizeof (struct keydock), and refuses another, so that a program and a
+ * library of different versions do not misread each other's records. */
+struct keydock {
+    uint8_t bytes[KEYDOCK_SIZE];
+};
+
+/* Each of these gives KEYDOCK_REFUSED_RECORD, before all else, if the bytes are no record: of
+ * another size, or with a part out of its range. All that power-on and the calls leave is a record. */
+
+/* Power-on, from any bytes of the right size: the plain map (key p + 1 at position p), nothing held, and
+ * AA waits as a reply. 0. */
+int32_t keydock_power_on(struct keydock *dock, size_t size);
+
+/* One scan of the panel, to be made 240 times a second: byte c is column c, bit r of it row r, 1 for a
+ * closed contact. A contact counts after three scans in a row that show it otherwise.
+ * 0, or KEYDOCK_REFUSED_SCAN_LENGTH for a `length` that is not KEYDOCK_SCAN_SIZE. */
+int32_t keydock_scan(struct keydock *dock, size_t size, const uint8_t *scan, size_t length);
+
+/* Another panel was clipped on: byte 8 c + r of its map is the key at column c, row r, 0 for none. Keys
+ * that were held on the old panel come up, and scans are not heard until their releases are queued.
+ * 0, or a refusal: KEYDOCK_REFUSED_MAP_LENGTH, else _MAP_ENTRY, else _MAP_DOUBLE. */
+int32_t keydock_swap(struct keydock *dock, size_t size, const uint8_t *map, size_t length);
+
+/* A frame came from the host. A broken one is taken, too: the dock asks for it again.
+ * 0, or KEYDOCK_REFUSED_FRAME for a number over KEYDOCK_FRAME_MAX. */
+int32_t keydock_frame(struct keydock *dock, size_t size, uint32_t frame);
+
+/* The next byte for the host, replies before key bytes: two numbers in one. */
+int32_t keydock_read(struct keydock *dock, size_t size);
+
+/* What an answer of keydock_read holds, if it is no refusal: one of the kinds, and the byte, which is 0
+ * where nothing was given. */
+enum { KEYDOCK_GAVE_NOTHING = 0, KEYDOCK_GAVE_REPLY = 1, KEYDOCK_GAVE_KEY_BYTE = 2 };
+#define KEYDOCK_GIVEN_KIND(answer) ((unsigned)(answer) >> 8)
+#define KEYDOCK_GIVEN_BYTE(answer) ((unsigned)(answer) & 255u)
+
+/* The lamps that the host wants lit, added up. */
+enum { KEYDOCK_LAMP_SCROLL = 1, KEYDOCK_LAMP_NUM = 2, KEYDOCK_LAMP_CAPS = 4 };
+int32_t keydock_indicators(const struct keydock *dock, size_t size);
+
+/* 1 while the host wants scans to be heard, else 0. The dock takes care of it by itself: scans may go on. */
+int32_t keydock_scanning(const struct keydock *dock, size_t size);
 
 /* ---- frames ---- */
 
@@ -150,16 +220,20 @@ enum {
 };
 
 /* Reads one key byte in a set, 1 to 3, and a state, 0 to 14. The answer holds three
- * numbers: KEYDOCK_EVENT, KEYDOCK_KEY (0 unless pressed or released) and KEYDOCK_STATE,
- * the state for the next byte, which is KEYDOCK_STATE_START after every event but
- * KEYDOCK_READ_MORE. KEYDOCK_REFUSED_STATE for a state over KEYDOCK_STATE_MAX, else
+ * numbers: KEYDOCK_FOUND_EVENT, KEYDOCK_FOUND_KEY (0 unless pressed or released) and
+ * KEYDOCK_NEXT_STATE, the state for the next byte, which is KEYDOCK_STATE_START after every event
+ * but KEYDOCK_READ_MORE. KEYDOCK_REFUSED_STATE for a state over KEYDOCK_STATE_MAX, else
  * KEYDOCK_REFUSED_CHOICE for another set; a refusal holds no event, key or state. */
 int32_t keydock_read_byte(uint32_t set, uint32_t state, uint8_t byte);
 
-/* What an answer of keydock_read_byte holds, if it is no refusal. */
-#define KEYDOCK_EVENT(answer) ((unsigned)(answer) & 255u)
-#define KEYDOCK_KEY(answer) ((unsigned)(answer) >> 8 & 255u)
-#define KEYDOCK_STATE(answer) ((unsigned)(answer) >> 16)
+/* The same for who wants presses alone: the answer holds KEYDOCK_FOUND_KEY, which is 0 unless a key was
+ * pressed, and KEYDOCK_NEXT_STATE, and no event. The same refusals. */
+int32_t keydock_read_press(uint32_t set, uint32_t state, uint8_t byte);
+
+/* What an answer of these two holds, if it is no refusal. */
+#define KEYDOCK_FOUND_EVENT(answer) ((unsigned)(answer) & 255u)
+#define KEYDOCK_FOUND_KEY(answer) ((unsigned)(answer) >> 8 & 255u)
+#define KEYDOCK_NEXT_STATE(answer) ((unsigned)(answer) >> 16)
 
 #ifdef __cplusplus
 }

@@ -145,11 +145,11 @@ static int show_events(int count, char **words)
         int32_t answer = keydock_read_byte(set, state, byte);
         if (answer < 0)
             return refused(answer);
-        printf("%02X %s", byte, events[KEYDOCK_EVENT(answer)]);
-        if (KEYDOCK_KEY(answer) != 0)
-            printf(" %u", KEYDOCK_KEY(answer));
+        printf("%02X %s", byte, events[KEYDOCK_FOUND_EVENT(answer)]);
+        if (KEYDOCK_FOUND_KEY(answer) != 0)
+            printf(" %u", KEYDOCK_FOUND_KEY(answer));
         putchar('\n');
-        state = KEYDOCK_STATE(answer);
+        state = KEYDOCK_NEXT_STATE(answer);
     }
     return 0;
 }
