@@ -55,7 +55,7 @@ module _ (earlier calls : List Call) (begins : mayBegin ours (afterCalls ours (w
   reads-meet-premises =
       let start = beginning (afterCalls ours (woken ours) earlier) in
       let s = reached-steady earlier in
-      let steady : Steady start = record { sound = begun-sound (afterCalls ours (woken ours) earlier) (s .sound); roomy = s .roomy } in
+      let steady : Steady start = record { sound = begun-sound (afterCalls ours (woken ours) earlier) (s .sound); sized = s .sized } in
       let end = afterCalls ours start (calls ++ replicate n Read) in
       let sound = any-steady (calls ++ replicate n Read) start steady .sound in
       let silent : quiet (end .dock) ≡ true =

@@ -53,7 +53,7 @@ module _ (d : Dock) where
       let then = remapped d map in
       by-swap (λ (a : Answered). bytesOf (a .dock) ≡ bytesOf d ++ pick (isAccepted (a .answer)) (closingBytes then) []) d
       (λ answer refused. rw refused (sym (append-nil (bytesOf d)))) map
-      (λ good. closing-bytes then ∙ ap (λ (l : List ℕ). l ++ closingBytes then) (remapped-bytes map))
+      (λ long good. closing-bytes then ∙ ap (λ (l : List ℕ). l ++ closingBytes then) (remapped-bytes map))
 
   -- Nor does a byte from the host, unless it clears the queue.
   took-keys : (byte : ℕ) → clears byte ≡ false → keysOf (tookByte byte d) ≡ keysOf d

@@ -81,4 +81,4 @@ module _ (d : Dock) (t : Terminal) (map : List ℕ) (f : Follows d t) where
       (record { chosen = f .chosen; firm = f .firm; told = record { told = f .told .told } })
 
   pub swap-follows : Follows (swapOf d map .dock) t
-  swap-follows = swap-keeps (λ (e : Dock). Follows e t) (λ e g. closing-follows e t g) d f map (λ good. remapped-follows)
+  swap-follows = swap-keeps (λ (e : Dock). Follows e t) (λ e g. closing-follows e t g) d f map (λ long good. remapped-follows)

@@ -7,7 +7,7 @@ use native.Mathlib.Omega.{arith}
 use borrow.Author.Tests.{eqb-false}
 use lib.Dec.{eqb}
 use Rattle.basics.specs.Choice.{pick, both}
-use lib.ListN.{length, take, drop, length-take, length-drop}
+use lib.ListN.{length, length-take}
 use Rattle.dock.specs.declared.Taken.{Taken}
 use Rattle.dock.specs.declared.Given.the-variants.{Nothing}
 use Rattle.dock.specs.Answers.{taken}
@@ -16,7 +16,6 @@ use Rattle.dock.specs.Scan.{quiet}
 use Rattle.dock.specs.Read.{oldest, withoutOldest, remembering, replyTaken, keyByteTaken, read, readOf}
 use Rattle.queue.specs.declared.Queue.{Queue}
 use Rattle.queue.specs.Queues.{waiting}
-use Rattle.queue.proofs.Meaning.{places-queueOf}
 use Rattle.record.specs.declared.Dock.{Dock}
 use Rattle.record.specs.Views.{withQueue, keysOf, contactsOf}
 use Rattle.record.specs.Parts.{withKeys}
@@ -28,13 +27,7 @@ use Rattle.terminal.specs.Terminals.{Terminal, hears}
 use Rattle.agreement.proofs.Following.{Follows, closing-follows}
 use Rattle.agreement.proofs.Ready.{IsReady, Settled, same-flags, closing-settled}
 use Rattle.dock.proofs.Calls.{by-read}
-
--- The queue without its oldest byte has its 16 places.
-behind-places : (q : Queue) → length (q .bytes) ≡ 16 → length (withoutOldest q .bytes) ≡ 16
-unfolding waiting
-behind-places q e =
-    let bytes = take (q .length) (q .bytes) in
-    places-queueOf (drop 1 bytes) (omega (arith, length-drop 1 bytes, length-take (q .length) (q .bytes)))
+use Rattle.dock.proofs.Arrays.{behind-places}
 
 byte-ready : (d : Dock) (scans : List (List ℕ)) → IsReady d scans
     → IsReady (withKeys d (withQueue (keysOf d) (withoutOldest (d .rest .outgoing .queue)))) scans

@@ -1,7 +1,8 @@
 -- What an answer says, in the terms of the table of numbers (docs/RULES.md, section 9). Assumes nothing.
-use Prim.Native.Nat.{ℕ}
+use Prim.Native.Nat.{ℕ, zero, suc}
 use mathlib.Core.Path.{_≡_}
 use mathlib.Core.List.{List, []}
+use lib.IntN.{ℤ, pos, negsuc}
 
 -- The number that is given back, and the values that come with it.
 pub record Said : Type 0 where
@@ -14,6 +15,11 @@ accepted values = record { number = 0; values = values }
 
 abbrev pub refused : ℕ → Said
 refused number = record { number = number; values = [] }
+
+-- A refusal as C sees it: minus its number.
+abbrev pub minus : ℕ → ℤ
+minus zero = pos zero
+minus (suc n) = negsuc n
 
 -- What an entry point promises whose answer is an enum: the answer r is the one stated, and by the list of what each case says it has
 -- the number and the values of the table.

@@ -3,6 +3,7 @@ use mathlib.Core.Path.{_≡_, refl}
 use mathlib.Core.Bool.{true, false}
 use mathlib.Core.List.{List, [], _∷_}
 use Prim.Native.Nat.{ℕ}
+use borrow.Author.Tests.{eqb-true}
 use lib.Dec.{eqb}
 use lib.ListN.{length}
 use Rattle.basics.specs.Lists.{allUpTo}
@@ -36,13 +37,14 @@ module _ (P : Answered → Type 0) (d : Dock) (left : (answer : Answer) → isAc
   unfolding scanOf
   by-scan scan done = picked P (inRange d) _ _ (picked P (eqb (length scan) 18) _ _ done (left ScanLength refl)) (left BadRecord refl)
 
-  pub by-swap : (map : List ℕ) → (allUpTo lastKey map ≡ true → P (answered Accepted (swapped d map))) → P (swapOf d map)
+  pub by-swap : (map : List ℕ) → (length map ≡ 144 → allUpTo lastKey map ≡ true → P (answered Accepted (swapped d map))) → P (swapOf d map)
   unfolding swapOf
   by-swap map done =
       picked P (inRange d) _ _
-      (picked P (eqb (length map) 144) _ _
-      (by-cases P (allUpTo lastKey map) _ _ (λ good. picked P (hasDouble map) _ _ (left MapDouble refl) (done good)) (λ bad. left MapEntry refl))
-      (left MapLength refl))
+      (by-cases P (eqb (length map) 144) _ _
+      (λ long. by-cases P (allUpTo lastKey map) _ _
+      (λ good. picked P (hasDouble map) _ _ (left MapDouble refl) (done (eqb-true (length map) 144 long) good)) (λ bad. left MapEntry refl))
+      (λ short. left MapLength refl))
       (left BadRecord refl)
 
   pub by-frame : (number : ℕ) → ((byte : ℕ) → P (answered Accepted (closing (tookByte byte d))))
@@ -77,9 +79,9 @@ module _ (P : Dock → Type 0) (ends : (e : Dock) → P e → P (closing e)) (d 
   unfolding scanned
   scan-keeps scan heard = by-scan After d (λ answer refused. p) scan (picked P (listening d) _ _ heard (ends d p))
 
-  pub swap-keeps : (map : List ℕ) → (allUpTo lastKey map ≡ true → P (remapped d map)) → P (swapOf d map .dock)
+  pub swap-keeps : (map : List ℕ) → (length map ≡ 144 → allUpTo lastKey map ≡ true → P (remapped d map)) → P (swapOf d map .dock)
   unfolding swapped
-  swap-keeps map done = by-swap After d (λ answer refused. p) map (λ good. ends _ (done good))
+  swap-keeps map done = by-swap After d (λ answer refused. p) map (λ long good. ends _ (done long good))
 
   pub frame-keeps : (number : ℕ) → ((byte : ℕ) → P (tookByte byte d)) → P (replying (0xfe ∷ []) d) → P (frameOf d number .dock)
   frame-keeps number took broken = by-frame After d (λ answer refused. p) number (λ byte. ends _ (took byte)) (ends _ broken)

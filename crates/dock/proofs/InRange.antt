@@ -124,7 +124,7 @@ pub swap-leaves-range : (d : Dock) (map : List ℕ) → inRange d ≡ true → a
 swap-leaves-range d map h g next e = rw e (remapped-in-range d map h g)
 
 pub swap-in-range : (d : Dock) (map : List ℕ) → inRange d ≡ true → inRange (swapOf d map .dock) ≡ true
-swap-in-range d map h = swap-keeps InRange closing-in-range d h map (λ good. remapped-in-range d map h good)
+swap-in-range d map h = swap-keeps InRange closing-in-range d h map (λ long good. remapped-in-range d map h good)
 
 -- A frame from the host.
 module _ (d : Dock) (h : inRange d ≡ true) (next : Dock) where

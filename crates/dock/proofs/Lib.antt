@@ -7,6 +7,7 @@ pub mod Swapping
 pub mod Framing
 pub mod Resting
 pub mod Sizes
+pub mod Arrays
 pub mod Refusals
 pub mod Saying
 pub mod Once

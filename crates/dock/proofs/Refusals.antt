@@ -34,7 +34,7 @@ module _ (d : Dock) where
 
   pub swap-refused : (map : List ℕ) → isAccepted (swapOf d map .answer) ≡ false → swapOf d map .dock ≡ d
   unfolding Left
-  swap-refused map = by-swap Left d (λ answer bad refused. refl) map (λ good. accepted _)
+  swap-refused map = by-swap Left d (λ answer bad refused. refl) map (λ long good. accepted _)
 
   pub frame-refused : (number : ℕ) → isAccepted (frameOf d number .answer) ≡ false → frameOf d number .dock ≡ d
   unfolding Left

@@ -61,7 +61,7 @@ pub swap-sizes : (d : Dock) (map : List ℕ) → Sizes d → Sizes (swapOf d map
 unfolding remapped opened
 swap-sizes d map s =
     swap-keeps Sizes closing-sizes d s map
-    (λ good. picked Sizes (d .rest .handover) (withMap d map) (opened d map) (like d _ s refl) (record { closed = refl; counts = refl }))
+    (λ long good. picked Sizes (d .rest .handover) (withMap d map) (opened d map) (like d _ s refl) (record { closed = refl; counts = refl }))
 
 -- A frame.
 obeyed-sizes : (byte : ℕ) (d : Dock) → Sizes d → Sizes (obeyed byte d)

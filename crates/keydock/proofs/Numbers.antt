@@ -12,6 +12,7 @@ use mir.Syntax.{w32}
 use mir.Val.{toZ}
 use mir.ValLaws.{toZ-pos}
 use Rattle.basics.specs.Choice.{pick, both}
+use Rattle.basics.specs.Said.{minus}
 use Rattle.basics.proofs.Cases.{never}
 use Rattle.encoder.specs.declared.Encoded.{Encoded}
 use Rattle.encoder.specs.declared.Encoded.the-variants.{Written, BadChoice, ShortOutput}
@@ -20,9 +21,10 @@ use Rattle.codes.proofs.Lengths.{encode-short}
 use Rattle.reader.specs.declared.Event.{Event}
 use Rattle.reader.specs.declared.Event.the-variants.{More, Pressed, Released, PauseStruck, Wrapping, Overrun, Unknown, BadState, BadSet}
 use Rattle.reader.specs.declared.Answer.{Answer}
-use Rattle.reader.specs.Reader.{readByte, answerOf, eventSays}
+use Rattle.reader.specs.declared.Press.{Press}
+use Rattle.reader.specs.Reader.{readByte, answerOf, eventSays, pressOf}
 use Rattle.roundtrip.proofs.OnlyItsOwn.{next-is-a-state}
-use Rattle.keydock.specs.Numbers.{minus, encodedNumber, eventNumber, keyOf, answerNumber}
+use Rattle.keydock.specs.Numbers.{encodedNumber, eventNumber, keyOf, answerNumber, pressNumber}
 
 -- A number below half the range of an i32 reads as itself.
 pub as-it-is : (n : ℕ) → n < 2 ^ 31 → toZ w32 n ≡ pos n
@@ -108,3 +110,20 @@ else-7 BadSet x y = refl
 
 pub not-9-is-7 : (e : Event) (n : ℕ) → n ≡ eventSays e .number → (n ≡ 0 → ⊥) → (n ≡ 9 → ⊥) → n ≡ 7
 not-9-is-7 e n f x y = f ∙ else-7 e (λ z. x (f ∙ z)) (λ z. y (f ∙ z))
+
+-- The same of a press.
+module _ (set state byte : ℕ) (r : Press) (e : r ≡ pressOf (answerOf set state byte)) where
+  pub press-small : byte < 256 → r .refusal ≡ 0 → r .state ≤ 14
+  press-small b z = rw e (next-small set state byte b (rw e at z))
+
+  pub press-else-7 : (r .refusal ≡ 0 → ⊥) → (r .refusal ≡ 9 → ⊥) → r .refusal ≡ 7
+  press-else-7 = not-9-is-7 (answerOf set state byte .event) (r .refusal) (ap (λ (p : Press). p .refusal) e)
+
+module _ (p r : Press) (e : r ≡ p) where
+  pub press-taken : r .refusal ≡ 0 → 256 * r .key + 65536 * r .state < 2 ^ 31 → toZ w32 (256 * r .key + 65536 * r .state) ≡ pressNumber p
+  unfolding pressNumber
+  press-taken z h = as-it-is (256 * r .key + 65536 * r .state) h ∙ rw (← e, z)
+
+  pub press-refused : (m : ℕ) → (r .refusal ≡ 0 → ⊥) → r .refusal ≡ m → minus m ≡ pressNumber p
+  unfolding pressNumber
+  press-refused m n f = rw (← e, ne-eqb (r .refusal) 0 n, f)

@@ -1,13 +1,14 @@
-// The C interface (include/keydock.h): frames, a key's codes and the reader on numbers and bytes alone.
+// The C interface without a dock (include/keydock.h): frames, a key's codes and the reader on numbers and bytes alone.
 // Nothing is decided here. Each function asks the part that knows and turns its answer into one number.
 use encoder::Encoded;
 use frames::Unpacked;
 use reader::Event;
+use reader::refusal_of;
 ghost use mathlib.Core.Path.{_≡_};
 ghost use Rattle.frames.specs.Frames.{packedOf, unpackedOf};
 ghost use Rattle.encoder.specs.Encoder.{encodedOf, outputOf};
-ghost use Rattle.reader.specs.Reader.{answerOf, eventSays};
-ghost use Rattle.keydock.specs.Numbers.{unpackedNumber, encodedNumber, eventNumber, keyOf, answerNumber};
+ghost use Rattle.reader.specs.Reader.{answerOf, pressOf};
+ghost use Rattle.keydock.specs.Numbers.{unpackedNumber, encodedNumber, eventNumber, keyOf, answerNumber, pressNumber};
 
 // The frame of a byte.
 #[no_mangle]
@@ -86,23 +87,6 @@ fn key_of(event: Event) -> u8
     }
 }
 
-// The number of a refusal, 0 for none.
-fn refusal_of(event: Event) -> u8
-    ensures { λ r. ⌜ r ≡ eventSays event .number ⌝ }
-{
-    match event {
-        Event::More => 0,
-        Event::Pressed(_) => 0,
-        Event::Released(_) => 0,
-        Event::PauseStruck => 0,
-        Event::Wrapping => 0,
-        Event::Overrun => 0,
-        Event::Unknown => 0,
-        Event::BadState => 9,
-        Event::BadSet => 7,
-    }
-}
-
 // One key byte read: event + 256 * key + 65536 * next state; -9 for a state over 14, else -7 for a set that is not 1 to 3.
 #[no_mangle]
 pub extern "C" fn keydock_read_byte(set: u32, state: u32, byte: u8) -> i32
@@ -116,6 +100,22 @@ pub extern "C" fn keydock_read_byte(set: u32, state: u32, byte: u8) -> i32
         return (event_number(event) + 256 * key + 65536 * answer.state) as i32;
     }
     if refusal == 9 {
+        return -9;
+    }
+    -7
+}
+
+// The same for presses alone: 256 * key + 65536 * next state, or the same refusals.
+#[no_mangle]
+pub extern "C" fn keydock_read_press(set: u32, state: u32, byte: u8) -> i32
+    ensures { λ r. ⌜ r ≡ pressNumber (pressOf (answerOf set state byte)) ⌝ }
+{
+    let press = reader::read_press(set, state, byte);
+    if press.refusal == 0 {
+        let key = press.key as u32;
+        return (256 * key + 65536 * press.state) as i32;
+    }
+    if press.refusal == 9 {
         return -9;
     }
     -7

@@ -54,7 +54,7 @@ pub fn takes_value(byte: u8) -> bool
 }
 
 // What is passed by value is in its range.
-fn is_good_rest(rest: Rest) -> bool
+pub fn is_good_rest(rest: Rest) -> bool
     ensures { λ r. ⌜ r ≡ goodRest rest ⌝ }
 {
     let outgoing = rest.outgoing;

@@ -7,7 +7,7 @@ use types.Run.{OneOf, miss}
 use Rattle.reader.specs.declared.Event.{Event}
 use Rattle.reader.specs.declared.Event.the-variants.{More, Pressed, Released, PauseStruck, Wrapping, Overrun, Unknown, BadState, BadSet}
 use Rattle.reader.specs.declared.Answer.{Answer}
-use Rattle.reader.specs.Reader.{pressedKey, pressOf}
+use Rattle.reader.specs.Reader.{eventSays, pressedKey, pressOf}
 use Rattle.reader.proofs.Event as event
 
 -- The tags of all events but a press, which has 1.
@@ -27,8 +27,9 @@ no-key BadState n = refl
 no-key BadSet n = refl
 
 module _ (a b : Answer) (same : a ≡ b) where
-  pub passed-over : OneOf others (tagOf event.the-type (a .event)) → record { state = a .state; key = 0 } ≡ pressOf b
-  passed-over n = rw (← same, ← no-key (a .event) n)
+  pub passed-over : OneOf others (tagOf event.the-type (a .event)) → (refusal : ℕ) → refusal ≡ eventSays (a .event) .number
+      → record { state = a .state; key = 0; refusal = refusal } ≡ pressOf b
+  passed-over n refusal r = rw (← same, ← no-key (a .event) n, r)
 
-  pub taken-out : (key : ℕ) → a .event ≡ Pressed key → record { state = a .state; key = key } ≡ pressOf b
+  pub taken-out : (key : ℕ) → a .event ≡ Pressed key → record { state = a .state; key = key; refusal = 0 } ≡ pressOf b
   taken-out key e = rw (← same, e)

@@ -134,6 +134,6 @@ pressedKey Unknown = 0
 pressedKey BadState = 0
 pressedKey BadSet = 0
 
--- A press taken out of an answer, with the next state.
+-- A press taken out of an answer, with the next state and the number of a refusal.
 abbrev pub pressOf : Answer → Press
-pressOf answer = record { state = answer .state; key = pressedKey (answer .event) }
+pressOf answer = record { state = answer .state; key = pressedKey (answer .event); refusal = answerSays answer .number }

@@ -11,7 +11,7 @@ use set3::read3;
 use steps::end;
 ghost use mathlib.Core.Path.{_≡_};
 ghost use Rattle.basics.specs.Said.{Answers};
-ghost use Rattle.reader.specs.Reader.{readByte, answerOf, answerSays, answerSaid, pressOf};
+ghost use Rattle.reader.specs.Reader.{readByte, answerOf, eventSays, answerSays, answerSaid, pressOf};
 
 // What a byte tells.
 pub enum Event {
@@ -41,10 +41,11 @@ pub struct Answer {
     pub event: Event,
 }
 
-// A press taken out of an answer: the key, 0 for none, and the next state.
+// A press taken out of an answer: the key, 0 for none, the next state, and the number of a refusal, 0 for none.
 pub struct Press {
     pub state: u32,
     pub key: u8,
+    pub refusal: u8,
 }
 
 // A byte in a state of a set.
@@ -86,6 +87,23 @@ pub fn read(set: u32, state: u32, byte: u8) -> Answer
     read_byte(set, state, byte)
 }
 
+// The number of a refusal, 0 for none.
+pub fn refusal_of(event: Event) -> u8
+    ensures { λ r. ⌜ r ≡ eventSays event .number ⌝ }
+{
+    match event {
+        Event::More => 0,
+        Event::Pressed(_) => 0,
+        Event::Released(_) => 0,
+        Event::PauseStruck => 0,
+        Event::Wrapping => 0,
+        Event::Overrun => 0,
+        Event::Unknown => 0,
+        Event::BadState => 9,
+        Event::BadSet => 7,
+    }
+}
+
 // For a caller that wants presses alone: the answer is taken apart at once, and anything else passed over.
 pub fn read_press(set: u32, state: u32, byte: u8) -> Press
     ensures { λ r. ⌜ r ≡ pressOf (answerOf set state byte) ⌝ }
@@ -97,7 +115,12 @@ pub fn read_press(set: u32, state: u32, byte: u8) -> Press
         return Press {
             state: next,
             key: 0,
+            refusal: refusal_of(event),
         };
     };
-    Press { state: next, key }
+    Press {
+        state: next,
+        key,
+        refusal: 0,
+    }
 }

@@ -3,3 +3,4 @@ pub mod Parts
 pub mod Power
 pub mod Held
 pub mod InPlace
+pub mod Sized

@@ -1,0 +1,4 @@
+pub mod Records
+pub mod Putting
+pub mod Fronts
+pub mod RoundTrip

@@ -1,0 +1,136 @@
+// The record in lent bytes, and whether they are one.
+use crate::CLOSED;
+use crate::COUNTS;
+use crate::HELD;
+use crate::QUEUE;
+use crate::SIZE;
+use crate::SMALL;
+use crate::TYPES;
+use crate::fill;
+use contacts::Columns;
+use contacts::Counts;
+use queue::Queue;
+use record::Dock;
+use record::Held;
+use record::Map;
+use record::Mode;
+use record::Outgoing;
+use record::Rest;
+use record::Types;
+use replies::Replies;
+ghost use mathlib.Core.Path.{_≡_};
+ghost use lib.ListN.{length};
+ghost use Rattle.layout.specs.Layout.{size, mapIn, typesIn, closedIn, countsIn, heldIn, restIn, recordIn, isRecord};
+
+// The arrays, one after the other.
+fn map_in(lent: &[u8]) -> Map
+    requires { ⌜ length (now lent) ≡ size ⌝ }
+    ensures { λ r. ⌜ r ≡ mapIn (now (lent .entry)) ⌝ }
+{
+    let mut map = [0u8; 144];
+    fill(&mut map, &lent[0..TYPES]);
+    map
+}
+
+fn types_in(lent: &[u8]) -> Types
+    requires { ⌜ length (now lent) ≡ size ⌝ }
+    ensures { λ r. ⌜ r ≡ typesIn (now (lent .entry)) ⌝ }
+{
+    let mut types = [0u8; keys::PLACES];
+    fill(&mut types, &lent[TYPES..CLOSED]);
+    types
+}
+
+fn closed_in(lent: &[u8]) -> Columns
+    requires { ⌜ length (now lent) ≡ size ⌝ }
+    ensures { λ r. ⌜ r ≡ closedIn (now (lent .entry)) ⌝ }
+{
+    let mut closed = [0u8; 18];
+    fill(&mut closed, &lent[CLOSED..COUNTS]);
+    closed
+}
+
+fn counts_in(lent: &[u8]) -> Counts
+    requires { ⌜ length (now lent) ≡ size ⌝ }
+    ensures { λ r. ⌜ r ≡ countsIn (now (lent .entry)) ⌝ }
+{
+    let mut counts = [0u8; 144];
+    fill(&mut counts, &lent[COUNTS..HELD]);
+    counts
+}
+
+fn held_in(lent: &[u8]) -> Held
+    requires { ⌜ length (now lent) ≡ size ⌝ }
+    ensures { λ r. ⌜ r ≡ heldIn (now (lent .entry)) ⌝ }
+{
+    let mut held = [0u8; 144];
+    fill(&mut held, &lent[HELD..QUEUE]);
+    held
+}
+
+// All but the arrays.
+pub fn rest_in(lent: &[u8]) -> Rest
+    requires { ⌜ length (now lent) ≡ size ⌝ }
+    ensures { λ r. ⌜ r ≡ restIn (now (lent .entry)) ⌝ }
+{
+    let mut bytes = [0u8; 16];
+    fill(&mut bytes, &lent[QUEUE..SMALL]);
+    Rest {
+        outgoing: Outgoing {
+            queue: Queue {
+                bytes,
+                length: lent[SMALL] as usize,
+            },
+            repeating: lent[572],
+            countdown: lent[573],
+        },
+        mode: Mode {
+            set: lent[574],
+            rate: lent[575],
+            indicators: lent[576],
+        },
+        replies: Replies {
+            bytes: [lent[577], lent[578], lent[579]],
+            length: lent[580],
+        },
+        scanning: lent[581] == 1,
+        waiting: lent[582],
+        handover: lent[583] == 1,
+        given: lent[584],
+    }
+}
+
+// The record that these bytes are.
+pub fn record_in(lent: &[u8]) -> Dock
+    requires { ⌜ length (now lent) ≡ size ⌝ }
+    ensures { λ r. ⌜ r ≡ recordIn (now (lent .entry)) ⌝ }
+{
+    let map = map_in(lent);
+    let closed = closed_in(lent);
+    let counts = counts_in(lent);
+    let held = held_in(lent);
+    let types = types_in(lent);
+    let rest = rest_in(lent);
+    Dock {
+        map,
+        closed,
+        counts,
+        held,
+        types,
+        rest,
+    }
+}
+
+// These bytes are a record in its range.
+pub fn is_record(lent: &[u8]) -> bool
+    ensures { λ r. ⌜ r ≡ isRecord (now (lent .entry)) ⌝ }
+{
+    if lent.len() != SIZE {
+        return false;
+    }
+    let rest = rest_in(lent);
+    (lent[581] <= 1)
+        & (lent[583] <= 1)
+        & range::all_up_to(keys::LAST_KEY, &lent[0..TYPES])
+        & range::is_good_rest(rest)
+}
