@@ -50,8 +50,11 @@ fn run_in_place(
     text: &[u8],
     out: &mut [u8],
 ) -> RanRest
-    requires { ⌜ (length (now text) ≤ 16384) × (length (now out) ≡ 65536)
-        × Standing (dockIn map closed counts held types before) ⌝ }
+    requires { ⌜ record {
+      standing : Standing (dockIn map closed counts held types before);
+      short : length (now text) ≤ 16384;
+      room : length (now out) ≡ 65536;
+    } ⌝ }
     ensures { λ r. ⌜ (r .used ≤ length (now (text .entry))) × (r .written ≤ 65536)
         × (inRange (dockIn (map .exit) (closed .exit) (counts .exit) (held .exit) (types .exit) (r .rest)) ≡ true) ⌝ }
 {
@@ -76,7 +79,7 @@ fn run_in_place(
 
 // The same of the whole record, which is taken apart once.
 fn run(dock: Dock, text: &[u8], out: &mut [u8]) -> Ran
-    requires { ⌜ (inRange dock ≡ true) × (length (now text) ≤ 16384) × (length (now out) ≡ 65536) ⌝ }
+    requires { ⌜ record { range : inRange dock ≡ true; short : length (now text) ≤ 16384; room : length (now out) ≡ 65536 } ⌝ }
     ensures { λ r. ⌜ (r .used ≤ length (now (text .entry))) × (r .written ≤ 65536) × (inRange (r .dock) ≡ true) ⌝ }
 {
     let mut map = dock.map;
@@ -137,7 +140,7 @@ fn keep(input: &mut [u8], from: usize, end: usize) -> usize
 
 // Runs what is at hand: the characters kept, and those that came after them.
 fn work(before: Dock, input: &mut [u8], out: &mut [u8], end: usize) -> Turn
-    requires { ⌜ (inRange before ≡ true) × (end ≤ 16384) × (length (now input) ≡ 16384) × (length (now out) ≡ 65536) ⌝ }
+    requires { ⌜ record { range : inRange before ≡ true; inside : end ≤ 16384; size : length (now input) ≡ 16384; room : length (now out) ≡ 65536 } ⌝ }
     ensures { λ r. ⌜ (r .kept ≤ 289) × (inRange (r .dock) ≡ true) ⌝ }
 {
     let ran = run(before, &input[..end], out);

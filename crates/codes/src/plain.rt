@@ -64,7 +64,7 @@ fn break_of(set: u8, code: u16) -> Sequence
 
 // The bytes that an action of such a key sends.
 pub fn plain_sequence(table: &Table, set: u8, key: u8, action: Action, kind: u8) -> Sequence
-    requires { ⌜ (now table ≡ laidOut) × (hasForms set key ≡ false) ⌝ }
+    requires { ⌜ record { laid : now table ≡ laidOut; plain : hasForms set key ≡ false } ⌝ }
     ensures { λ r. ⌜ ((modifiers : ℕ) (lock : Bool) → r ≡ holding (encode set key action kind modifiers lock)) ⌝ }
 {
     match action {

@@ -61,7 +61,7 @@ module _ (d : Dock) (h : inRange d ≡ true) where
   rate-in-range rate a =
       let g = in-range-mode d h in
       in-range-with-mode d h _
-      (good-mode _ (good-mode-set (d .rest .mode) g .0) (good-mode-set (d .rest .mode) g .1) a (good-mode-indicators (d .rest .mode) g))
+      (good-mode _ (good-mode-set (d .rest .mode) g .low) (good-mode-set (d .rest .mode) g .high) a (good-mode-indicators (d .rest .mode) g))
 
   restarted-in-range : inRange (restarted d) ≡ true
   restarted-in-range = fresh-in-range (d .map) (d .rest .replies) (in-range-map d h) (in-range-replies d h)

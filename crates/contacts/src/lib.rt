@@ -73,7 +73,7 @@ fn stirred(counts: &mut Counts, column: usize, seen: u8, closed: u8) -> u8
 
 // The scan shows what counts.
 fn shows(closed: &Columns, scan: &[u8]) -> bool
-    requires { ⌜ (length (now closed) ≡ 18) × (length (now scan) ≡ 18) ⌝ }
+    requires { ⌜ record { closed : length (now closed) ≡ 18; scan : length (now scan) ≡ 18 } ⌝ }
     ensures { λ r. ⌜ r ≡ same (now (scan .entry)) (now (closed .entry)) ⌝ }
 {
     let mut all = true;
@@ -105,7 +105,7 @@ fn none_counted(counts: &Counts) -> bool
 
 // Both: a scan of an idle panel, or of keys that are held.
 pub fn at_rest(closed: &Columns, counts: &Counts, scan: &[u8]) -> bool
-    requires { ⌜ (length (now closed) ≡ 18) × (length (now counts) ≡ 144) × (length (now scan) ≡ 18) ⌝ }
+    requires { ⌜ record { closed : length (now closed) ≡ 18; counts : length (now counts) ≡ 144; scan : length (now scan) ≡ 18 } ⌝ }
     ensures { λ r. ⌜ r ≡ atRest (contacts (now (closed .entry)) (now (counts .entry))) (now (scan .entry)) ⌝ }
 {
     if !shows(closed, scan) {
@@ -116,7 +116,7 @@ pub fn at_rest(closed: &Columns, counts: &Counts, scan: &[u8]) -> bool
 
 // The contacts after a counted scan, in place.
 pub fn count(closed: &mut Columns, counts: &mut Counts, scan: &[u8])
-    requires { ⌜ (length (now closed) ≡ 18) × (length (now counts) ≡ 144) × (length (now scan) ≡ 18) ⌝ }
+    requires { ⌜ record { closed : length (now closed) ≡ 18; counts : length (now counts) ≡ 144; scan : length (now scan) ≡ 18 } ⌝ }
     ensures { λ r. ⌜ contacts (now (closed .exit)) (now (counts .exit))
         ≡ countedOf (contacts (now (closed .entry)) (now (counts .entry))) (now (scan .entry)) ⌝ }
 {

@@ -1,9 +1,10 @@
 -- Upper-case hexadecimal digits (docs/RULES.md, section 12). Assumes nothing.
 use Prim.Native.Nat.{ℕ, zero, suc, _+_, _*_, _-_}
+use mathlib.Core.Path.{_≡_}
 use mathlib.Core.Bool.{Bool, true}
 use mathlib.Core.List.{List, [], _∷_}
 use lib.Dec.{leb}
-use lib.ListN.{getD}
+use lib.ListN.{length, getD}
 use Rattle.basics.specs.Choice.{pick, both, either, between}
 
 -- The characters 0 to 9 and A to F.
@@ -18,6 +19,10 @@ valueOf c = pick (leb c 57) (c - 48) (c - 55)
 unfoldable pub allDigits : List ℕ → Bool
 allDigits [] = true
 allDigits (c ∷ cs) = both (isDigit c) (allDigits cs)
+
+-- A line of n digits.
+abbrev pub Digits : ℕ → List ℕ → Type 0
+Digits n line = record { size : length line ≡ n; digits : allDigits line ≡ true }
 
 -- The byte that the digits 2 i and 2 i + 1 stand for.
 unfoldable pub byteAt : List ℕ → ℕ → ℕ

@@ -3,7 +3,7 @@ ghost use mathlib.Core.Path.{_≡_};
 ghost use mathlib.Core.Bool.{true};
 ghost use Prim.Native.Nat.{_+_, _*_, _<_};
 ghost use lib.ListN.{length};
-ghost use Rattle.digits.specs.Digits.{isDigit, valueOf, allDigits, byteAt, bytesFrom, frameIn, digitOf};
+ghost use Rattle.digits.specs.Digits.{isDigit, valueOf, allDigits, Digits, byteAt, bytesFrom, frameIn, digitOf};
 
 // A digit. The tests are joined without branches, so that a loop over many characters takes sixteen at a time.
 fn is_digit(c: u8) -> bool
@@ -35,7 +35,7 @@ fn value_of(c: u8) -> u8
 
 // The byte that the digits 2 i and 2 i + 1 stand for.
 fn byte_at(line: &[u8], i: usize) -> u8
-    requires { ⌜ (2 * i + 1 < length (now line)) × (allDigits (now line) ≡ true) ⌝ }
+    requires { ⌜ record { inside : 2 * i + 1 < length (now line); digits : allDigits (now line) ≡ true } ⌝ }
     ensures { λ r. ⌜ r ≡ byteAt (now (line .entry)) i ⌝ }
 {
     let high = value_of(line[2 * i]);
@@ -45,7 +45,7 @@ fn byte_at(line: &[u8], i: usize) -> u8
 
 // The 18 bytes of a scan.
 pub fn scan_in(line: &[u8]) -> [u8; 18]
-    requires { ⌜ (length (now line) ≡ 36) × (allDigits (now line) ≡ true) ⌝ }
+    requires { ⌜ Digits 36 (now line) ⌝ }
     ensures { λ r. ⌜ r ≡ bytesFrom (now (line .entry)) 0 18 ⌝ }
 {
     let mut scan = [0u8; 18];
@@ -59,7 +59,7 @@ pub fn scan_in(line: &[u8]) -> [u8; 18]
 
 // The 144 bytes of a map.
 pub fn map_in(line: &[u8]) -> [u8; 144]
-    requires { ⌜ (length (now line) ≡ 288) × (allDigits (now line) ≡ true) ⌝ }
+    requires { ⌜ Digits 288 (now line) ⌝ }
     ensures { λ r. ⌜ r ≡ bytesFrom (now (line .entry)) 0 144 ⌝ }
 {
     let mut map = [0u8; 144];
@@ -73,7 +73,7 @@ pub fn map_in(line: &[u8]) -> [u8; 144]
 
 // The number of a frame.
 pub fn frame_in(line: &[u8]) -> u32
-    requires { ⌜ (length (now line) ≡ 3) × (allDigits (now line) ≡ true) ⌝ }
+    requires { ⌜ Digits 3 (now line) ⌝ }
     ensures { λ r. ⌜ r ≡ frameIn (now (line .entry)) ⌝ }
 {
     let high = value_of(line[0]) as u32;

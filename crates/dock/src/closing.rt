@@ -10,7 +10,7 @@ ghost use Rattle.dock.specs.Closing.{closing};
 
 // An open handover goes on: the flags of the held keys are lent. It is apart, so that calls do not pay for it while none is open.
 pub fn go_on(held: &mut Held, types: &Types, rest: Rest) -> Rest
-    requires { ⌜ (goodRest rest ≡ true) × (rest .handover ≡ true) ⌝ }
+    requires { ⌜ record { range : goodRest rest ≡ true; handover : rest .handover ≡ true } ⌝ }
     ensures { λ r. ⌜ HeldAfter closing held types rest r ⌝ }
 {
     let outgoing = rest.outgoing;

@@ -21,7 +21,7 @@ module _ (d : Dock) (h : inRange d ≡ true) where
   indicators-in-range : (indicators : ℕ) → indicators ≤ 7 → inRange (withIndicators indicators d) ≡ true
   indicators-in-range indicators a =
       let g = in-range-mode d h in
-      in-range-with-mode d h _ (good-mode _ (good-mode-set (d .rest .mode) g .0) (good-mode-set (d .rest .mode) g .1) (good-mode-rate (d .rest .mode) g) a)
+      in-range-with-mode d h _ (good-mode _ (good-mode-set (d .rest .mode) g .low) (good-mode-set (d .rest .mode) g .high) (good-mode-rate (d .rest .mode) g) a)
 
   type-in-range : (key kind : ℕ) → inRange (withType key kind d) ≡ true
   type-in-range key kind = in-range-with-types d h _

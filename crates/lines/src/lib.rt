@@ -12,14 +12,13 @@ use record::Types;
 use text::Kind;
 ghost use mathlib.Core.Path.{_≡_};
 ghost use mathlib.Core.Bool.{true};
-ghost use lib.ListN.{length};
 ghost use Rattle.basics.specs.Said.{Answers};
 ghost use Rattle.dock.specs.Standing.{Standing};
 ghost use Rattle.dock.specs.Scan.{scanOf};
 ghost use Rattle.dock.specs.Swap.{swapOf};
 ghost use Rattle.dock.specs.Frame.{tookFrame};
 ghost use Rattle.dock.specs.Read.{read};
-ghost use Rattle.digits.specs.Digits.{allDigits, bytesFrom, frameIn};
+ghost use Rattle.digits.specs.Digits.{Digits, bytesFrom, frameIn};
 ghost use Rattle.frames.specs.Frames.{unpackedOf};
 ghost use Rattle.record.specs.declared.Dock.{Dock};
 ghost use Rattle.record.specs.InPlace.{dockIn, AllGive, ArraysGive, HeldGive};
@@ -48,7 +47,7 @@ fn scan_line(
     rest: Rest,
     line: &[u8],
 ) -> SteppedRest
-    requires { ⌜ Standing (dockIn map closed counts held types rest) × (length (now line) ≡ 36) × (allDigits (now line) ≡ true) ⌝ }
+    requires { ⌜ record { standing : Standing (dockIn map closed counts held types rest); line : Digits 36 (now line) } ⌝ }
     ensures { λ r. ⌜ AllGive (λ (d : Dock). stepped d (r .printed)) (λ (d : Dock). steppedBy (scanOf d (bytesFrom (now (line .entry)) 0 18))) map closed counts held types rest (r .rest) ⌝ }
 {
     let scan = digits::scan_in(line);
@@ -84,7 +83,7 @@ fn frame_line(
     rest: Rest,
     line: &[u8],
 ) -> SteppedRest
-    requires { ⌜ (goodRest rest ≡ true) × (length (now line) ≡ 3) × (allDigits (now line) ≡ true) ⌝ }
+    requires { ⌜ record { range : goodRest rest ≡ true; line : Digits 3 (now line) } ⌝ }
     ensures { λ r. ⌜ ArraysGive (λ (d : Dock). stepped d (r .printed)) (λ (d : Dock). steppedBy (tookFrame (unpackedOf (frameIn (now (line .entry)))) d)) closed counts held types rest (r .rest) ⌝ }
 {
     let number = digits::frame_in(line);
@@ -107,7 +106,7 @@ fn map_line(
     rest: Rest,
     line: &[u8],
 ) -> SteppedRest
-    requires { ⌜ (inRange (dockIn map closed counts held types rest) ≡ true) × (length (now line) ≡ 288) × (allDigits (now line) ≡ true) ⌝ }
+    requires { ⌜ record { range : inRange (dockIn map closed counts held types rest) ≡ true; line : Digits 288 (now line) } ⌝ }
     ensures { λ r. ⌜ AllGive (λ (d : Dock). stepped d (r .printed)) (λ (d : Dock). steppedBy (swapOf d (bytesFrom (now (line .entry)) 0 144))) map closed counts held types rest (r .rest) ⌝ }
 {
     let new = digits::map_in(line);

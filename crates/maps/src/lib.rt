@@ -8,7 +8,7 @@ ghost use Rattle.maps.specs.Maps.{hasDouble};
 
 // Some key stands twice. An entry is its own mark among those seen, so that 0 needs no test.
 pub fn has_double(map: &[u8; 144]) -> bool
-    requires { ⌜ (length (now map) ≡ 144) × (allUpTo lastKey (now map) ≡ true) ⌝ }
+    requires { ⌜ record { size : length (now map) ≡ 144; entries : allUpTo lastKey (now map) ≡ true } ⌝ }
     ensures { λ r. ⌜ r ≡ hasDouble (now (map .entry)) ⌝ }
 {
     let mut seen = [0u8; keys::PLACES];

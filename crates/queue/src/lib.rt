@@ -55,7 +55,7 @@ pub fn mark_last(bytes: &mut [u8; 16], at: usize, mark: u8)
 
 // The queue with a sequence behind its bytes, or with its last byte replaced by the mark.
 pub fn pushed(queue: Queue, sequence: Sequence, mark: u8) -> Queue
-    requires { ⌜ (tidy queue ≡ true) × (sequence .length ≤ 8) ⌝ }
+    requires { ⌜ record { tidied : tidy queue ≡ true; short : sequence .length ≤ 8 } ⌝ }
     ensures { λ r. ⌜ r ≡ queueOf (pushedTo mark (waiting queue) (contents sequence)) ⌝ }
 {
     let at = queue.length;
@@ -76,7 +76,7 @@ pub fn pushed(queue: Queue, sequence: Sequence, mark: u8) -> Queue
 
 // The same in place: of these bytes the first `at` wait, and then as many as the answer says.
 pub fn push(bytes: &mut [u8; 16], at: usize, sequence: Sequence, mark: u8) -> usize
-    requires { ⌜ (tidy (queueWith (now bytes) at) ≡ true) × (sequence .length ≤ 8) ⌝ }
+    requires { ⌜ record { tidied : tidy (queueWith (now bytes) at) ≡ true; short : sequence .length ≤ 8 } ⌝ }
     ensures { λ r. ⌜ queueWith (now (bytes .exit)) r ≡ queueOf (pushedTo mark (waiting (queueWith (now (bytes .entry)) at)) (contents sequence)) ⌝ }
 {
     let queue = Queue {

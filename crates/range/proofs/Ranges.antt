@@ -23,9 +23,9 @@ use Rattle.range.specs.Range.{goodMode, goodOutgoing, goodKeys, goodWait
 
 -- The mode.
 module _ (m : Mode) (h : goodMode m ≡ true) where
-  pub good-mode-set : (1 ≤ m .set) × (m .set ≤ 3)
+  pub good-mode-set : record { low : 1 ≤ m .set; high : m .set ≤ 3 }
   unfolding goodMode
-  good-mode-set = (leb-true 1 (m .set) (search (left-of-both, right-of-both)), leb-true (m .set) 3 (search (left-of-both, right-of-both)))
+  good-mode-set = record { low = leb-true 1 (m .set) (search (left-of-both, right-of-both)); high = leb-true (m .set) 3 (search (left-of-both, right-of-both)) }
 
   pub good-mode-rate : m .rate ≤ 127
   unfolding goodMode

@@ -52,7 +52,7 @@ pub fn is_tidy(replies: Replies) -> bool
 
 // The replies without the oldest.
 pub fn popped(replies: Replies) -> Replies
-    requires { ⌜ (tidyReplies replies ≡ true) × (1 ≤ replies .length) ⌝ }
+    requires { ⌜ record { tidied : tidyReplies replies ≡ true; some : 1 ≤ replies .length } ⌝ }
     ensures { λ r. ⌜ r ≡ repliesOf (drop 1 (waitingReplies replies)) ⌝ }
 {
     Replies {

@@ -38,7 +38,7 @@ fn count(
     rest: Rest,
     scan: &[u8],
 ) -> Rest
-    requires { ⌜ Standing (dockIn map closed counts held types rest) × (length (now scan) ≡ 18) ⌝ }
+    requires { ⌜ record { standing : Standing (dockIn map closed counts held types rest); scan : length (now scan) ≡ 18 } ⌝ }
     ensures { λ r. ⌜ AllAfter (λ (d : Dock). counting d (now (scan .entry))) map closed counts held types rest r ⌝ }
 {
     let was = *closed;
@@ -61,7 +61,7 @@ fn change(
     rest: Rest,
     scan: &[u8],
 ) -> Rest
-    requires { ⌜ Standing (dockIn map closed counts held types rest) × (length (now scan) ≡ 18) ⌝ }
+    requires { ⌜ record { standing : Standing (dockIn map closed counts held types rest); scan : length (now scan) ≡ 18 } ⌝ }
     ensures { λ r. ⌜ AllAfter (λ (d : Dock). changed d (now (scan .entry))) map closed counts held types rest r ⌝ }
 {
     if contacts::at_rest(closed, counts, scan) {
@@ -99,7 +99,7 @@ fn hear(
     rest: Rest,
     scan: &[u8],
 ) -> Rest
-    requires { ⌜ Standing (dockIn map closed counts held types rest) × (length (now scan) ≡ 18) ⌝ }
+    requires { ⌜ record { standing : Standing (dockIn map closed counts held types rest); scan : length (now scan) ≡ 18 } ⌝ }
     ensures { λ r. ⌜ AllAfter (λ (d : Dock). heardScan d (now (scan .entry))) map closed counts held types rest r ⌝ }
 {
     let outgoing = rest.outgoing;

@@ -92,7 +92,7 @@ fn bytes_in(held: &Held, table: &Table, mode: Mode, kind: u8, key: u8, action: A
 // A release that sends nothing: that of PAUSE, which sent all on its press, and in set 3 those of keys whose type sends none. It is
 // asked by branches, since the compiler would else work out both for every key.
 fn is_silent(set: u8, key: u8, kind: u8) -> bool
-    requires { ⌜ (1 ≤ set) × (set ≤ 3) ⌝ }
+    requires { ⌜ record { low : 1 ≤ set; high : set ≤ 3 } ⌝ }
     ensures { λ r. ⌜ r ≡ either (pausesAtOnce set key) (not (sendsRelease set kind)) ⌝ }
 {
     if set == 3 {

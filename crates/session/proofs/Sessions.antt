@@ -25,7 +25,7 @@ line-is-calls w s line = rw (s .range) (go (kindOf line) refl)
     go : (kind : Kind) → kindOf line ≡ kind → stepBy kind (w .dock) line .dock ≡ afterCalls ours w (kindCalls kind line) .dock
     go Read e = refl
     go Frame e = refl
-    go Scan e = ap (λ (scan : List ℕ). scanOf (w .dock) scan .dock) (sym (bytes-are-bytes line (scan-is line e .1) 18 0))
+    go Scan e = ap (λ (scan : List ℕ). scanOf (w .dock) scan .dock) (sym (bytes-are-bytes line (scan-is line e .digits) 18 0))
     go Map e = refl
     go Malformed e = refl
 

@@ -10,7 +10,7 @@ use lib.ListN.{length}
 use Rattle.basics.specs.Choice.{pick}
 use Rattle.text.specs.declared.Kind.{Kind}
 use Rattle.text.specs.declared.Kind.the-variants.{Read, Frame, Scan, Map, Malformed}
-use Rattle.digits.specs.Digits.{allDigits}
+use Rattle.digits.specs.Digits.{allDigits, Digits}
 use Rattle.text.specs.Lines.{kindOf}
 
 module _ (line : List ℕ) where
@@ -81,21 +81,21 @@ map-by false true false false true e = (refl, refl)
 map-by false true false false false e = (cc, cc)
 
 module _ (line : List ℕ) where
-  pub frame-is : kindOf line ≡ Frame → (length line ≡ 3) × (allDigits line ≡ true)
+  pub frame-is : kindOf line ≡ Frame → Digits 3 line
   unfolding kindOf
   frame-is e =
       let w =
       frame-by (eqb (length line) 0) (allDigits line) (eqb (length line) 36) (eqb (length line) 3) (eqb (length line) 288) e in
-      (eqb-true (length line) 3 (w .0), w .1)
+      record { size = eqb-true (length line) 3 (w .0); digits = w .1 }
 
-  pub scan-is : kindOf line ≡ Scan → (length line ≡ 36) × (allDigits line ≡ true)
+  pub scan-is : kindOf line ≡ Scan → Digits 36 line
   unfolding kindOf
   scan-is e =
       let w = scan-by (eqb (length line) 0) (allDigits line) (eqb (length line) 36) (eqb (length line) 3) (eqb (length line) 288) e in
-      (eqb-true (length line) 36 (w .0), w .1)
+      record { size = eqb-true (length line) 36 (w .0); digits = w .1 }
 
-  pub map-is : kindOf line ≡ Map → (length line ≡ 288) × (allDigits line ≡ true)
+  pub map-is : kindOf line ≡ Map → Digits 288 line
   unfolding kindOf
   map-is e =
       let w = map-by (eqb (length line) 0) (allDigits line) (eqb (length line) 36) (eqb (length line) 3) (eqb (length line) 288) e in
-      (eqb-true (length line) 288 (w .0), w .1)
+      record { size = eqb-true (length line) 288 (w .0); digits = w .1 }

@@ -28,7 +28,7 @@ fn remember(rest: Rest, byte: u8) -> Rest
 
 // The oldest reply.
 fn take_reply(held: &mut Held, types: &Types, rest: Rest) -> TakenRest
-    requires { ⌜ (goodRest rest ≡ true) × (1 ≤ rest .replies .length) ⌝ }
+    requires { ⌜ record { range : goodRest rest ≡ true; some : 1 ≤ rest .replies .length } ⌝ }
     ensures { λ r. ⌜ HeldGive (taken (r .given)) replyTaken held types rest (r .rest) ⌝ }
 {
     let replies = rest.replies;
@@ -43,7 +43,7 @@ fn take_reply(held: &mut Held, types: &Types, rest: Rest) -> TakenRest
 
 // The oldest key byte.
 fn take_key_byte(held: &mut Held, types: &Types, rest: Rest) -> TakenRest
-    requires { ⌜ (goodRest rest ≡ true) × (1 ≤ rest .outgoing .queue .length) ⌝ }
+    requires { ⌜ record { range : goodRest rest ≡ true; some : 1 ≤ rest .outgoing .queue .length } ⌝ }
     ensures { λ r. ⌜ HeldGive (taken (r .given)) keyByteTaken held types rest (r .rest) ⌝ }
 {
     let mut outgoing = rest.outgoing;

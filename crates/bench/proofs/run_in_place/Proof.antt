@@ -27,7 +27,7 @@ loop-holds c =
     let s = c .before .before .before in
     let p = s .pre in
     let inside = line-end-within (s .args .text .now) 0 (omega arith) in
-    (omega (arith, c .end-of .ensures, inside), omega (arith, c .end-of .ensures, inside), omega arith, p .1, p .2)
+    (omega (arith, c .end-of .ensures, inside), omega (arith, c .end-of .ensures, inside), omega arith, p .room, p .standing)
 
 sub-step-in-place : tie.Need-sub-step-in-place Inv-loop μ-loop
 sub-step-in-place c = omega (arith, c .before .before .before .before .before .before .loop .inv .0)
@@ -45,10 +45,10 @@ put-requires : tie.Need-put-requires Inv-loop μ-loop
 put-requires c κs =
     let t = c .before .before .before .before .before .before .before .before .before in
     let i = t .before .loop .inv in
-    omega (arith, i .0, i .2, i .3, t .loop-test .taken, t .before .before .before .before .before .pre .0)
+    omega (arith, i .0, i .2, i .3, t .loop-test .taken, t .before .before .before .before .before .pre .short)
 
 add-at : tie.Need-add-at Inv-loop μ-loop
-add-at c = omega (arith, c .before .before .before .before .before .before .before .before .before .before .before .before .loop-test .taken, c .before .before .before .before .before .before .before .before .before .before .before .before .before .before .before .before .before .pre .0)
+add-at c = omega (arith, c .before .before .before .before .before .before .before .before .before .before .before .before .loop-test .taken, c .before .before .before .before .before .before .before .before .before .before .before .before .before .before .before .before .before .pre .short)
 
 loop-again : tie.Need-loop-again Inv-loop μ-loop
 loop-again c =
@@ -67,12 +67,12 @@ loop-again c =
     )
 
 same-length : tie.Need-same-length Inv-loop μ-loop
-same-length c = omega (arith, c .before .loop .inv .3, c .before .before .before .before .before .pre .1)
+same-length c = omega (arith, c .before .loop .inv .3, c .before .before .before .before .before .pre .room)
 
 returns : tie.Need-returns Inv-loop μ-loop
 returns c =
     let i = c .before .loop .inv in
-    let short = c .before .before .before .before .before .pre .0 in
+    let short = c .before .before .before .before .before .pre .short in
     (omega (arith, i .0, i .1), omega (arith, i .0, i .1, i .2, short), i .4 .range)
 
 pub run-in-place-spec : {M : Type 1} → statement M

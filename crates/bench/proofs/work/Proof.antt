@@ -13,7 +13,7 @@ slice-aggregate-run c = sym (length-take-le _ _ (omega arith))
 run-requires : tie.Need-run-requires
 run-requires c κs =
     let s = c .before .before .before .before in
-    (s .pre .0, omega (arith, length-take-le (s .args .end) (s .args .input .now) (omega arith)), search needs)
+    record { range = s .pre .range; short = omega (arith, length-take-le (s .args .end) (s .args .input .now) (omega arith)); room = search needs }
 
 slice-aggregate-write-all : tie.Need-slice-aggregate-write-all
 slice-aggregate-write-all c = sym (length-take-le _ _ (search needs))

@@ -42,7 +42,7 @@ returns c =
     let s = l .before .before in
     let a = s .args in
     let k = contacts (a .closed .now) (a .counts .now) in
-    counted-all k (a .scan .now) (s .pre .0) (s .pre .1) (l .loop .c) (contacts (l .loop .closed) (l .loop .counts)) (l .loop .inv .0)
+    counted-all k (a .scan .now) (s .pre .closed) (s .pre .counts) (l .loop .c) (contacts (l .loop .closed) (l .loop .counts)) (l .loop .inv .0)
     (c .loop-test .left) (l .loop .inv .1)
 
 pub count-spec : {M : Type 1} → statement M

@@ -10,26 +10,26 @@ use Rattle.digits.proofs.byte_at.Tie as tie
 value-of-requires : tie.Need-value-of-requires
 value-of-requires c κs =
     let s = c .before .before in
-    digit-at _ _ (s .pre .1) (omega arith)
+    digit-at _ _ (s .pre .digits) (omega arith)
 
 value-of-requires-2 : tie.Need-value-of-requires-2
 value-of-requires-2 c κs =
     let s = c .before .before .before .before in
-    digit-at _ _ (s .pre .1) (s .pre .0)
+    digit-at _ _ (s .pre .digits) (s .pre .inside)
 
 mul-result : tie.Need-mul-result
 mul-result c =
     let s = c .before .before .before .before .before in
     let line = s .args .line .now in
     let i = s .args .i in
-    omega (arith, value-at-below-16 line (2 * i) (s .pre .1), value-at-below-16 line (2 * i + 1) (s .pre .1))
+    omega (arith, value-at-below-16 line (2 * i) (s .pre .digits), value-at-below-16 line (2 * i + 1) (s .pre .digits))
 
 add-result : tie.Need-add-result
 add-result c =
     let s = c .before .before .before .before .before in
     let line = s .args .line .now in
     let i = s .args .i in
-    omega (arith, value-at-below-16 line (2 * i) (s .pre .1), value-at-below-16 line (2 * i + 1) (s .pre .1))
+    omega (arith, value-at-below-16 line (2 * i) (s .pre .digits), value-at-below-16 line (2 * i + 1) (s .pre .digits))
 
 returns : tie.Need-returns
 unfolding byteAt

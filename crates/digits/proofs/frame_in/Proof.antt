@@ -6,13 +6,13 @@ use Rattle.digits.proofs.frame_in.Statement.{statement}
 use Rattle.digits.proofs.frame_in.Tie as tie
 
 value-of-requires : tie.Need-value-of-requires
-value-of-requires c κs = digit-at _ 0 (c .before .before .pre .1) (omega arith)
+value-of-requires c κs = digit-at _ 0 (c .before .before .pre .digits) (omega arith)
 
 value-of-requires-2 : tie.Need-value-of-requires-2
-value-of-requires-2 c κs = digit-at _ 1 (c .before .before .before .before .pre .1) (omega arith)
+value-of-requires-2 c κs = digit-at _ 1 (c .before .before .before .before .pre .digits) (omega arith)
 
 value-of-requires-3 : tie.Need-value-of-requires-3
-value-of-requires-3 c κs = digit-at _ 2 (c .before .before .before .before .before .before .pre .1) (omega arith)
+value-of-requires-3 c κs = digit-at _ 2 (c .before .before .before .before .before .before .pre .digits) (omega arith)
 
 pub frame-in-spec : {M : Type 1} → statement M
 frame-in-spec =

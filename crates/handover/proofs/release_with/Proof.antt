@@ -15,7 +15,7 @@ push-requires : tie.Need-push-requires
 push-requires c κs =
     let s = c .before .before .before .before in
     let a = s .args in
-    (good-keys-queue (keysFrom (a .held .now) (a .bytes .now) (a .rest)) (s .pre .keys), s .pre .short)
+    record { tidied = good-keys-queue (keysFrom (a .held .now) (a .bytes .now) (a .rest)) (s .pre .keys); short = s .pre .short }
 
 cast-after : tie.Need-cast-after
 cast-after c =

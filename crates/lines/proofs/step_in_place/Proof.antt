@@ -19,8 +19,7 @@ scan-line-requires : tie.Need-scan-line-requires
 scan-line-requires c κs =
     let told = c .before .before .before .before .before in
     let s = told .before .before .before .before in
-    let is = scan-is (s .args .line .now) (sym (told .before .before .kind-of .ensures) ∙ told .enum-told .given .1) in
-    (s .pre, is .0, is .1)
+    record { standing = s .pre; line = scan-is (s .args .line .now) (sym (told .before .before .kind-of .ensures) ∙ told .enum-told .given .1) }
 
 read-line-requires : tie.Need-read-line-requires
 read-line-requires c κs =
@@ -33,15 +32,14 @@ frame-line-requires c κs =
     let told = c .before .before .before .before in
     let s = told .before .before .before .before in
     let a = s .args in
-    let is = frame-is (a .line .now) (sym (told .before .before .kind-of .ensures) ∙ told .enum-told3 .given .1) in
-    (in-range-rest (dockWith (a .map .now) (a .closed .now) (a .counts .now) (a .held .now) (a .types .now) (a .rest)) (s .pre .range), is .0, is .1)
+    let range = in-range-rest (dockWith (a .map .now) (a .closed .now) (a .counts .now) (a .held .now) (a .types .now) (a .rest)) (s .pre .range) in
+    record { range = range; line = frame-is (a .line .now) (sym (told .before .before .kind-of .ensures) ∙ told .enum-told3 .given .1) }
 
 map-line-requires : tie.Need-map-line-requires
 map-line-requires c κs =
     let told = c .before .before .before .before .before in
     let s = told .before .before .before .before in
-    let is = map-is (s .args .line .now) (sym (told .before .before .kind-of .ensures) ∙ told .enum-told4 .given .1) in
-    (s .pre .range, is .0, is .1)
+    record { range = s .pre .range; line = map-is (s .args .line .now) (sym (told .before .before .kind-of .ensures) ∙ told .enum-told4 .given .1) }
 
 returns : tie.Need-returns
 returns c =

@@ -27,23 +27,23 @@ loop-holds c = (omega arith, refl, refl, double-none (c .args .map .now))
 cast-at : tie.Need-cast-at Inv-loop μ-loop
 cast-at c =
     let l = c .before .before in
-    omega (arith, up-to-at lastKey (l .before .args .map .now) (l .loop .p) (l .before .pre .1))
+    omega (arith, up-to-at lastKey (l .before .args .map .now) (l .loop .p) (l .before .pre .entries))
 
 array-read-if1 : tie.Need-array-read-if1 Inv-loop μ-loop
 array-read-if1 c =
     let l = c .before .before in
-    omega (arith, up-to-at lastKey (l .before .args .map .now) (l .loop .p) (l .before .pre .1))
+    omega (arith, up-to-at lastKey (l .before .args .map .now) (l .loop .p) (l .before .pre .entries))
 
 array-write-seen : tie.Need-array-write-seen Inv-loop μ-loop
 array-write-seen c =
     let l = c .before .before .before in
-    omega (arith, up-to-at lastKey (l .before .args .map .now) (l .loop .p) (l .before .pre .1))
+    omega (arith, up-to-at lastKey (l .before .args .map .now) (l .loop .p) (l .before .pre .entries))
 
 loop-again : tie.Need-loop-again Inv-loop μ-loop
 loop-again c =
     let l = c .before .before .before in
     let map = l .before .args .map .now in
-    let key = up-to-at lastKey map (l .loop .p) (l .before .pre .1) in (
+    let key = up-to-at lastKey map (l .loop .p) (l .before .pre .entries) in (
       omega arith,
       simp length-set (l .loop .inv .1),
       zero-unmarked (l .loop .seen) _ (l .loop .inv .2),

@@ -11,7 +11,7 @@ use Rattle.queue.proofs.alone.Statement.{statement}
 use Rattle.queue.proofs.alone.Tie as tie
 
 pushed-requires : tie.Need-pushed-requires
-pushed-requires c κs = (ap tidy (c .empty .ensures) ∙ tidy-queueOf [] (omega arith), c .before .pre)
+pushed-requires c κs = record { tidied = ap tidy (c .empty .ensures) ∙ tidy-queueOf [] (omega arith); short = c .before .pre }
 
 returns : tie.Need-returns
 returns c =

@@ -11,7 +11,7 @@ returns c =
     let s = c .before .before in
     let r = s .args .t1 in
     let places : length (r .bytes) ≡ 3 = search needs in
-    popped-by-place r (s .pre .0) (s .pre .1) places
+    popped-by-place r (s .pre .tidied) (s .pre .some) places
 
 pub popped-spec : {M : Type 1} → statement M
 popped-spec = tie.close (tie.spec (λ c. search needs) (λ c. search needs) (λ c. search needs) returns)

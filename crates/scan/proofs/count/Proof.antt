@@ -13,7 +13,7 @@ turns-requires c κs =
     let s = c .before .before .before .before .before .before .before .before .before .before in
     let a = s .args in
     let d = dockWith (a .map .now) (a .closed .now) (a .counts .now) (a .held .now) (a .types .now) (a .rest) in
-    record { keys = in-range-keys d (s .pre .0 .range); mode = in-range-mode d (s .pre .0 .range); entries = in-range-map d (s .pre .0 .range) }
+    record { keys = in-range-keys d (s .pre .standing .range); mode = in-range-mode d (s .pre .standing .range); entries = in-range-map d (s .pre .standing .range) }
 
 returns : tie.Need-returns
 returns c =

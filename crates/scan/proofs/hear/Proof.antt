@@ -15,8 +15,8 @@ change-requires c κs =
     let tick = c .before .before .before in
     let s = tick .before .before .before in
     let a = s .args in
-    let range = ticked-in-range (dockWith (a .map .now) (a .closed .now) (a .counts .now) (a .held .now) (a .types .now) (a .rest)) (s .pre .0 .range) _ (ap (keysWith (a .held .now)) (tick .tick .ensures)) in
-    (record { range = range; closed = s .pre .0 .closed; counts = s .pre .0 .counts }, s .pre .1)
+    let range = ticked-in-range (dockWith (a .map .now) (a .closed .now) (a .counts .now) (a .held .now) (a .types .now) (a .rest)) (s .pre .standing .range) _ (ap (keysWith (a .held .now)) (tick .tick .ensures)) in
+    record { standing = record { range = range; closed = s .pre .standing .closed; counts = s .pre .standing .counts }; scan = s .pre .scan }
 
 repeat-when-quiet-requires : tie.Need-repeat-when-quiet-requires
 repeat-when-quiet-requires c κs =
@@ -25,7 +25,7 @@ repeat-when-quiet-requires c κs =
     let s = tick .before .before .before in
     let a = s .args in
     in-range-rest (dockWith (a .map .now) (after .last .1 .0) (after .last .1 .1 .0) (after .last .1 .1 .1 .0) (a .types .now) (after .result))
-    (changed-leaves-range (dockWith (a .map .now) (a .closed .now) (a .counts .now) (a .held .now) (a .types .now) (a .rest)) (s .pre .0 .range) _ (ap (keysWith (a .held .now)) (tick .tick .ensures)) (a .scan .now) _ (after .ensures))
+    (changed-leaves-range (dockWith (a .map .now) (a .closed .now) (a .counts .now) (a .held .now) (a .types .now) (a .rest)) (s .pre .standing .range) _ (ap (keysWith (a .held .now)) (tick .tick .ensures)) (a .scan .now) _ (after .ensures))
 
 returns : tie.Need-returns
 returns c =

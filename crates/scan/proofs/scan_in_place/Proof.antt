@@ -33,7 +33,7 @@ hear-requires : tie.Need-hear-requires
 hear-requires c κs =
     let long = c .before .before .before .before .before in
     let s = long .before .before in
-    (s .pre, long .if1 .left)
+    record { standing = s .pre; scan = long .if1 .left }
 
 returns-3 : tie.Need-returns-3
 returns-3 c =

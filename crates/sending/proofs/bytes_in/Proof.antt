@@ -8,7 +8,7 @@ use Rattle.sending.proofs.bytes_in.Statement.{statement}
 use Rattle.sending.proofs.bytes_in.Tie as tie
 
 plain-sequence-requires : tie.Need-plain-sequence-requires
-plain-sequence-requires c κs = (c .before .before .pre, sym (c .before .has-forms .ensures) ∙ not-true _ (c .if1 .taken))
+plain-sequence-requires c κs = record { laid = c .before .before .pre; plain = sym (c .before .has-forms .ensures) ∙ not-true _ (c .if1 .taken) }
 
 returns : tie.Need-returns
 returns c =

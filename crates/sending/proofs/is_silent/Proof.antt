@@ -14,7 +14,7 @@ returns-2 : tie.Need-returns-2
 returns-2 c =
     let s = c .before .before in
     let a = s .args in
-    sym (eq-eqb (a .key) 101 (c .if3 .taken)) ∙ silent-by-key (a .set) (a .key) (a .kind) (s .pre .0) (s .pre .1) (c .before .if1 .left)
+    sym (eq-eqb (a .key) 101 (c .if3 .taken)) ∙ silent-by-key (a .set) (a .key) (a .kind) (s .pre .low) (s .pre .high) (c .before .if1 .left)
 
 returns-3 : tie.Need-returns-3
 returns-3 c =
@@ -25,7 +25,7 @@ returns-4 : tie.Need-returns-4
 returns-4 c =
     let s = c .before .before in
     let a = s .args in
-    sym (ne-eqb (a .key) 101 (c .if3 .left)) ∙ silent-by-key (a .set) (a .key) (a .kind) (s .pre .0) (s .pre .1) (c .before .if1 .left)
+    sym (ne-eqb (a .key) 101 (c .if3 .left)) ∙ silent-by-key (a .set) (a .key) (a .kind) (s .pre .low) (s .pre .high) (c .before .if1 .left)
 
 pub is-silent-spec : {M : Type 1} → statement M
 is-silent-spec = tie.close (tie.spec returns returns-2 returns-3 returns-4)

@@ -30,7 +30,7 @@ push-requires c κs =
     let s = c .before .before .before .before .before in
     let a = s .args in
     let k = keys (a .held .now) (queueWith (a .bytes .now) (a .at)) 0 0 in
-    (s .pre .tidied, sequence-short k (a .mode) (a .kind) (a .key) Press _ (c .before .before .before .bytes-in .ensures))
+    record { tidied = s .pre .tidied; short = sequence-short k (a .mode) (a .kind) (a .key) Press _ (c .before .before .before .bytes-in .ensures) }
 
 returns-2 : tie.Need-returns-2
 unfolding sends

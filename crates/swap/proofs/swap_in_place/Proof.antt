@@ -25,7 +25,7 @@ returns-2 c =
     _ (copy .copied .ensures) _ (c .before .all-up-to .ensures) (not-true _ (c .if2 .taken))
 
 has-double-requires : tie.Need-has-double-requires
-has-double-requires c κs = (search needs, sym (c .before .before .all-up-to .ensures) ∙ not-false _ (c .before .if2 .left))
+has-double-requires c κs = record { size = search needs; entries = sym (c .before .before .all-up-to .ensures) ∙ not-false _ (c .before .if2 .left) }
 
 returns-3 : tie.Need-returns-3
 returns-3 c =
@@ -46,11 +46,10 @@ go-on-requires c κs =
     let s = copy .before .before .before in
     let a = s .args in
     let d = dockWith (a .map .now) (a .closed .now) (a .counts .now) (a .held .now) (a .types .now) (a .rest) in
-    let remaps = next .open-handover .ensures (a .map .now) (a .held .now) (a .types .now) (copy .copied .result) in (
-      in-range-rest (dockWith (copy .copied .result) _ _ (a .held .now) (a .types .now) (next .open-handover .result))
-          (swap-leaves-range d (copy .copied .result) (s .pre) (sym (small .before .all-up-to .ensures) ∙ not-false _ (small .if2 .left)) _ remaps),
-      swap-opens d (copy .copied .result) _ remaps,
-    )
+    let remaps = next .open-handover .ensures (a .map .now) (a .held .now) (a .types .now) (copy .copied .result) in
+    let swapped = swap-leaves-range d (copy .copied .result) (s .pre) (sym (small .before .all-up-to .ensures) ∙ not-false _ (small .if2 .left)) _ remaps in
+    let range = in-range-rest (dockWith (copy .copied .result) _ _ (a .held .now) (a .types .now) (next .open-handover .result)) swapped in
+    record { range = range; handover = swap-opens d (copy .copied .result) _ remaps }
 
 returns-4 : tie.Need-returns-4
 returns-4 c =

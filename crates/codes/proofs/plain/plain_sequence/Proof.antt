@@ -12,33 +12,33 @@ returns : tie.Need-returns
 returns c =
     let b = c .before .before in
     let told = b .before in
-    no-release _ _ (told .before .before .pre .1) _ _ _ (c .empty .ensures) (told .enum-told2 .given .1)
+    no-release _ _ (told .before .before .pre .plain) _ _ _ (c .empty .ensures) (told .enum-told2 .given .1)
     (refused (b .sends-release .ensures) (c .before .if1 .taken))
 
 returns-2 : tie.Need-returns-2
 returns-2 c =
     let b = c .before .before in
     let told = b .before in
-    no-repeat _ _ (told .before .before .pre .1) _ _ _ (c .empty2 .ensures) (told .enum-told3 .given .1)
+    no-repeat _ _ (told .before .before .pre .plain) _ _ _ (c .empty2 .ensures) (told .enum-told3 .given .1)
     (refused (b .may-repeat .ensures) (c .before .if2 .taken))
 
 returns-3 : tie.Need-returns-3
 returns-3 c =
     let told = c .before .before in
-    one-press _ _ (told .before .before .pre .1) _ _ _ _ (told .enum-told .given .1) (c .before .code-in .ensures) (c .make-of .ensures)
+    one-press _ _ (told .before .before .pre .plain) _ _ _ _ (told .enum-told .given .1) (c .before .code-in .ensures) (c .make-of .ensures)
 
 returns-4 : tie.Need-returns-4
 returns-4 c =
     let b = c .before .before .before in
     let told = b .before in
-    one-release _ _ (told .before .before .pre .1) _ _ _ _ (told .enum-told2 .given .1)
+    one-release _ _ (told .before .before .pre .plain) _ _ _ _ (told .enum-told2 .given .1)
     (passed (b .sends-release .ensures) (c .before .before .if1 .left)) (c .before .code-in2 .ensures) (c .break-of .ensures)
 
 returns-5 : tie.Need-returns-5
 returns-5 c =
     let b = c .before .before .before in
     let told = b .before in
-    one-repeat _ _ (told .before .before .pre .1) _ _ _ _ (told .enum-told3 .given .1)
+    one-repeat _ _ (told .before .before .pre .plain) _ _ _ _ (told .enum-told3 .given .1)
     (passed (b .may-repeat .ensures) (c .before .before .if2 .left)) (c .before .code-in3 .ensures) (c .make-of2 .ensures)
 
 pub plain-sequence-spec : {M : Type 1} → statement M

@@ -13,7 +13,7 @@ returns c = λ map closed counts.
 go-on-requires : tie.Need-go-on-requires
 go-on-requires c κs =
     let going = c .before in
-    (going .before .before .pre, not-false _ (going .if1 .left))
+    record { range = going .before .before .pre; handover = not-false _ (going .if1 .left) }
 
 returns-2 : tie.Need-returns-2
 returns-2 c = c .go-on .ensures

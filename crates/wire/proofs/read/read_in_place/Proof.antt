@@ -5,18 +5,12 @@ use Rattle.dock.proofs.Reading.{read-reply, read-key-byte, read-nothing}
 use Rattle.wire.proofs.read.read_in_place.Statement.{statement}
 use Rattle.wire.proofs.read.read_in_place.Tie as tie
 
-take-reply-requires : tie.Need-take-reply-requires
-take-reply-requires c κs = (c .before .before .before .before .pre, search needs)
-
 returns : tie.Need-returns
 returns c = λ map closed counts.
     let some = c .before .before in
     let a = some .before .before .before .args in
     read-reply (dockWith map closed counts (a .held .now) (a .types .now) (a .rest)) (some .if1 .taken)
     _ (c .take-reply .ensures map closed counts)
-
-take-key-byte-requires : tie.Need-take-key-byte-requires
-take-key-byte-requires c κs = (c .before .before .before .before .before .before .before .before .pre, search needs)
 
 returns-2 : tie.Need-returns-2
 returns-2 c = λ map closed counts.
@@ -41,9 +35,9 @@ pub read-in-place-spec : {M : Type 1} → statement M
 read-in-place-spec =
     tie.close
     (tie.spec
-    take-reply-requires
+    (λ c κs. search needs)  -- take-reply-requires
     returns
-    take-key-byte-requires
+    (λ c κs. search needs)  -- take-key-byte-requires
     returns-2
     close-in-place-requires
     returns-3)

@@ -12,14 +12,14 @@ use Rattle.wire.proofs.read.take_key_byte.Tie as tie
 popped-requires : tie.Need-popped-requires
 popped-requires c κs =
     let s = c .before .before .before in
-    good-keys-queue (keysWith [] (s .args .rest .outgoing)) (good-rest-outgoing (s .args .rest) (s .pre .0))
+    good-keys-queue (keysWith [] (s .args .rest .outgoing)) (good-rest-outgoing (s .args .rest) (s .pre .range))
 
 close-in-place-requires : tie.Need-close-in-place-requires
 close-in-place-requires c κs =
     let s = c .before .before .before .before .before .before in
     let a = s .args in
     let d = dockWith [] [] [] (a .held .now) (a .types .now) (a .rest) in
-    in-range-rest _ (key-byte-leaves-range d (alone-in-range (a .rest) (s .pre .0) _ _ _ _) _ _ _ (c .before .before .popped .ensures)
+    in-range-rest _ (key-byte-leaves-range d (alone-in-range (a .rest) (s .pre .range) _ _ _ _) _ _ _ (c .before .before .popped .ensures)
     (c .remember .ensures [] [] [] (a .held .now) (a .types .now)))
 
 returns : tie.Need-returns
@@ -27,7 +27,7 @@ returns c = λ map closed counts.
     let s = c .before .before .before .before .before .before .before in
     let a = s .args in
     key-byte-given (dockWith map closed counts (a .held .now) (a .types .now) (a .rest)) _ _ _ (c .close-in-place .ensures map closed counts) _
-    (oldest-in-front (a .rest .outgoing .queue) (s .pre .1)) (c .before .before .before .popped .ensures)
+    (oldest-in-front (a .rest .outgoing .queue) (s .pre .some)) (c .before .before .before .popped .ensures)
     (c .before .remember .ensures map closed counts (a .held .now) (a .types .now))
 
 pub take-key-byte-spec : {M : Type 1} → statement M

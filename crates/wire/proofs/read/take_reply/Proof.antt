@@ -11,14 +11,14 @@ use Rattle.wire.proofs.read.take_reply.Tie as tie
 popped-requires : tie.Need-popped-requires
 popped-requires c κs =
     let s = c .before .before in
-    (good-rest-replies (s .args .rest) (s .pre .0), s .pre .1)
+    record { tidied = good-rest-replies (s .args .rest) (s .pre .range); some = s .pre .some }
 
 close-in-place-requires : tie.Need-close-in-place-requires
 close-in-place-requires c κs =
     let s = c .before .before .before .before .before in
     let a = s .args in
     let d = dockWith [] [] [] (a .held .now) (a .types .now) (a .rest) in
-    in-range-rest _ (reply-leaves-range d (alone-in-range (a .rest) (s .pre .0) _ _ _ _) _ _ _ (c .before .before .popped .ensures)
+    in-range-rest _ (reply-leaves-range d (alone-in-range (a .rest) (s .pre .range) _ _ _ _) _ _ _ (c .before .before .popped .ensures)
     (c .remember .ensures [] [] [] (a .held .now) (a .types .now)))
 
 returns : tie.Need-returns
@@ -26,7 +26,7 @@ returns c = λ map closed counts.
     let s = c .before .before .before .before .before .before in
     let a = s .args in
     reply-given (dockWith map closed counts (a .held .now) (a .types .now) (a .rest)) _ _ _ (c .close-in-place .ensures map closed counts) _
-    (oldest-reply-in-front (a .rest .replies) (s .pre .1)) (c .before .before .before .popped .ensures)
+    (oldest-reply-in-front (a .rest .replies) (s .pre .some)) (c .before .before .before .popped .ensures)
     (c .before .remember .ensures map closed counts (a .held .now) (a .types .now))
 
 pub take-reply-spec : {M : Type 1} → statement M
