@@ -2,7 +2,7 @@
 use mathlib.Core.Path.{_≡_, refl, _∙_}
 use mathlib.Core.Bool.{true}
 use mathlib.Core.List.{List, [], _∷_, map}
-use Prim.Native.Nat.{ℕ}
+use Prim.Native.Nat.{ℕ, suc}
 use native.Mathlib.Omega.{arith}
 use lib.ListN.{length, take, drop, length-take, length-drop, length-set}
 use Rattle.basics.specs.Lists.{allUpTo}
@@ -43,7 +43,7 @@ module _ {m c n h t q r : List ℕ} (s : Sized m c n h t q r) where
   other-keys held queue =
       record { map = s .map; closed = s .closed; counts = s .counts; held = held; types = s .types; queue = queue; replies = s .replies }
 
-  other-types : {t′ : List ℕ} → length t′ ≡ 105 → Sized m c n h t′ q r
+  other-types : {t′ : List ℕ} → length t′ ≡ suc lastKey → Sized m c n h t′ q r
   other-types types =
       record { map = s .map; closed = s .closed; counts = s .counts; held = s .held; types = types; queue = s .queue; replies = s .replies }
 
@@ -113,7 +113,7 @@ swap-sized d map s =
     (λ long good. picked IsSized (d .rest .handover) _ _ (other-panel s long (s .closed) (s .counts)) (other-panel s long refl refl))
 
 -- A dock that has just woken up.
-default-types-sized : length defaultTypes ≡ 105
+default-types-sized : length defaultTypes ≡ suc lastKey
 unfolding defaultTypes rows
 default-types-sized = refl
 

@@ -2,10 +2,10 @@
 use mathlib.Core.Path.{_≡_, refl}
 use mathlib.Core.Bool.{Bool, true, false, _&&_, and-assoc}
 use mathlib.Core.List.{List}
-use Prim.Native.Nat.{ℕ, _+_, _≤_}
+use Prim.Native.Nat.{ℕ, suc, _+_, _≤_}
 use native.Mathlib.Omega.{arith}
 use borrow.Author.Tests.{leb-true, eqb-true, eq-eqb, ne-eqb}
-use lib.Dec.{leb, eqb}
+use lib.Dec.{leb}
 use lib.ListN.{length, getD, drop, length-drop}
 use lib.Seq.{length-take-le}
 use Rattle.basics.specs.Lists.{allUpTo}
@@ -15,7 +15,7 @@ use Rattle.record.specs.declared.Rest.{Rest}
 use Rattle.record.specs.Parts.{dockWith}
 use Rattle.record.specs.Sized.{IsSized}
 use Rattle.range.specs.Range.{goodRest, inRange}
-use Rattle.layout.specs.Layout.{size, part, mapIn, typesIn, closedIn, countsIn, heldIn, restIn, recordIn, isRecord}
+use Rattle.layout.specs.Layout.{typesAt, closedAt, countsAt, heldAt, queueAt, size, part, small, mapIn, typesIn, closedIn, countsIn, heldIn, restIn, recordIn, isRecord}
 
 module _ (l : List ℕ) (h : isRecord l ≡ true) where
   pub record-size : length l ≡ size
@@ -26,20 +26,20 @@ module _ (l : List ℕ) (h : isRecord l ≡ true) where
   unfolding isRecord
   record-in-range = search (left-of-both, right-of-both)
 
-  pub scanning-small : getD l 581 0 ≤ 1
+  pub scanning-small : small 10 l ≤ 1
   unfolding isRecord
-  scanning-small = leb-true (getD l 581 0) 1 (search (left-of-both, right-of-both))
+  scanning-small = leb-true (small 10 l) 1 (search (left-of-both, right-of-both))
 
-  pub handover-small : getD l 583 0 ≤ 1
+  pub handover-small : small 12 l ≤ 1
   unfolding isRecord
-  handover-small = leb-true (getD l 583 0) 1 (search (left-of-both, right-of-both))
+  handover-small = leb-true (small 12 l) 1 (search (left-of-both, right-of-both))
 
 pub another-size : (l : List ℕ) → (length l ≡ size → ⊥) → false ≡ isRecord l
 unfolding isRecord
 another-size l n = rw (ne-eqb (length l) size n)
 
 pub joined-record : (l : List ℕ) (map rest : Bool) → length l ≡ size → map ≡ allUpTo lastKey (mapIn l) → rest ≡ goodRest (restIn l)
-    → (leb (getD l 581 0) 1 && leb (getD l 583 0) 1 && map && rest) ≡ isRecord l
+    → (leb (small 10 l) 1 && leb (small 12 l) 1 && map && rest) ≡ isRecord l
 unfolding isRecord inRange
 joined-record l map rest s m r = rw (eq-eqb (length l) size s, ← m, ← r) (simp and-assoc)
 
@@ -58,10 +58,10 @@ record-sized l h =
     let s = record-size l h in
     record {
       map = part-size l 0 144 (omega (arith, s));
-      closed = part-size l 249 18 (omega (arith, s));
-      counts = part-size l 267 144 (omega (arith, s));
-      held = part-size l 411 144 (omega (arith, s));
-      types = part-size l 144 105 (omega (arith, s));
-      queue = part-size l 555 16 (omega (arith, s));
+      closed = part-size l closedAt 18 (omega (arith, s));
+      counts = part-size l countsAt 144 (omega (arith, s));
+      held = part-size l heldAt 144 (omega (arith, s));
+      types = part-size l typesAt (suc lastKey) (omega (arith, s));
+      queue = part-size l queueAt 16 (omega (arith, s));
       replies = refl;
     }

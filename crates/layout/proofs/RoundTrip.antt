@@ -8,10 +8,11 @@ use borrow.Author.Tests.{eq-eqb, le-leb}
 use lib.Dec.{eqb}
 use lib.ListN.{length, getD, take, drop, drop-of-length-le, take-append-drop, length-append}
 use lib.Seq.{drop-drop, drop-cons, take-at, drop-append-add, getD-append-add}
+use Rattle.keys.specs.Keys.{lastKey}
 use Rattle.record.specs.declared.Dock.{Dock}
 use Rattle.record.specs.Sized.{IsSized}
 use Rattle.range.specs.Range.{inRange}
-use Rattle.layout.specs.Layout.{size, isRecord, part, mapIn, typesIn, closedIn, countsIn, heldIn, flagOf, restIn, recordIn, smallOf, restBytes, bytesOf}
+use Rattle.layout.specs.Layout.{typesAt, closedAt, countsAt, heldAt, queueAt, smallAt, size, isRecord, part, small, mapIn, typesIn, closedIn, countsIn, heldIn, flagOf, restIn, recordIn, smallOf, restBytes, bytesOf}
 use Rattle.layout.proofs.Records.{record-size, scanning-small, handover-small}
 
 -- A flag.
@@ -25,39 +26,39 @@ part-more : (l : List ℕ) (at n : ℕ) → part at n l ++ drop (at + n) l ≡ d
 part-more l at n = ap (λ (r : List ℕ). take n (drop at l) ++ r) (sym (drop-drop n at l)) ∙ take-append-drop n (drop at l)
 
 -- The last fourteen bytes,
-small-in : (l : List ℕ) → isRecord l ≡ true → smallOf (restIn l) ≡ drop 571 l
+small-in : (l : List ℕ) → isRecord l ≡ true → smallOf (restIn l) ≡ drop smallAt l
 unfolding smallOf restIn
 small-in l h =
     let s = record-size l h in
     rw (
-      flag-same (getD l 581 0) (scanning-small l h),
-      flag-same (getD l 583 0) (handover-small l h),
-      drop-cons l 571 0 (omega (arith, s)),
-      drop-cons l 572 0 (omega (arith, s)),
-      drop-cons l 573 0 (omega (arith, s)),
-      drop-cons l 574 0 (omega (arith, s)),
-      drop-cons l 575 0 (omega (arith, s)),
-      drop-cons l 576 0 (omega (arith, s)),
-      drop-cons l 577 0 (omega (arith, s)),
-      drop-cons l 578 0 (omega (arith, s)),
-      drop-cons l 579 0 (omega (arith, s)),
-      drop-cons l 580 0 (omega (arith, s)),
-      drop-cons l 581 0 (omega (arith, s)),
-      drop-cons l 582 0 (omega (arith, s)),
-      drop-cons l 583 0 (omega (arith, s)),
-      drop-cons l 584 0 (omega (arith, s)),
-      drop-of-length-le l {i = 585} (omega (arith, s)),
+      flag-same (small 10 l) (scanning-small l h),
+      flag-same (small 12 l) (handover-small l h),
+      drop-cons l (smallAt + 0) 0 (omega (arith, s)),
+      drop-cons l (smallAt + 1) 0 (omega (arith, s)),
+      drop-cons l (smallAt + 2) 0 (omega (arith, s)),
+      drop-cons l (smallAt + 3) 0 (omega (arith, s)),
+      drop-cons l (smallAt + 4) 0 (omega (arith, s)),
+      drop-cons l (smallAt + 5) 0 (omega (arith, s)),
+      drop-cons l (smallAt + 6) 0 (omega (arith, s)),
+      drop-cons l (smallAt + 7) 0 (omega (arith, s)),
+      drop-cons l (smallAt + 8) 0 (omega (arith, s)),
+      drop-cons l (smallAt + 9) 0 (omega (arith, s)),
+      drop-cons l (smallAt + 10) 0 (omega (arith, s)),
+      drop-cons l (smallAt + 11) 0 (omega (arith, s)),
+      drop-cons l (smallAt + 12) 0 (omega (arith, s)),
+      drop-cons l (smallAt + 13) 0 (omega (arith, s)),
+      drop-of-length-le l {i = size} (omega (arith, s)),
     )
 
 -- the rest, and all.
-rest-in : (l : List ℕ) → isRecord l ≡ true → restBytes (restIn l) ≡ drop 555 l
+rest-in : (l : List ℕ) → isRecord l ≡ true → restBytes (restIn l) ≡ drop queueAt l
 unfolding restBytes restIn
-rest-in l h = ap (λ (r : List ℕ). part 555 16 l ++ r) (small-in l h) ∙ part-more l 555 16
+rest-in l h = ap (λ (r : List ℕ). part queueAt 16 l ++ r) (small-in l h) ∙ part-more l queueAt 16
 
 pub bytes-in : (l : List ℕ) → isRecord l ≡ true → bytesOf (recordIn l) ≡ l
 unfolding bytesOf
 bytes-in l h =
-    rw (rest-in l h, part-more l 411 144, part-more l 267 144, part-more l 249 18, part-more l 144 105, part-more l 0 144)
+    rw (rest-in l h, part-more l heldAt 144, part-more l countsAt 144, part-more l closedAt 18, part-more l typesAt (suc lastKey), part-more l 0 144)
 
 -- What lies behind bytes.
 part-past : (x y : List ℕ) (n k m : ℕ) → length x ≡ n → part (n + k) m (x ++ y) ≡ part k m y
@@ -88,37 +89,37 @@ module _ (d : Dock) (z : IsSized d) where
 
   types-at : typesIn (bytesOf d) ≡ d .types
   unfolding bytesOf
-  types-at = part-past (d .map) _ 144 0 105 (z .map) ∙ take-at (d .types) _ 105 (z .types)
+  types-at = part-past (d .map) _ 144 0 (suc lastKey) (z .map) ∙ take-at (d .types) _ (suc lastKey) (z .types)
 
   closed-at : closedIn (bytesOf d) ≡ d .closed
   unfolding bytesOf
   closed-at =
-      part-past (d .map) _ 144 105 18 (z .map) ∙ part-past (d .types) _ 105 0 18 (z .types) ∙ take-at (d .closed) _ 18 (z .closed)
+      part-past (d .map) _ 144 (suc lastKey) 18 (z .map) ∙ part-past (d .types) _ (suc lastKey) 0 18 (z .types) ∙ take-at (d .closed) _ 18 (z .closed)
 
   counts-at : countsIn (bytesOf d) ≡ d .counts
   unfolding bytesOf
   counts-at =
-      part-past (d .map) _ 144 123 144 (z .map) ∙ part-past (d .types) _ 105 18 144 (z .types)
+      part-past (d .map) _ 144 (suc lastKey + 18) 144 (z .map) ∙ part-past (d .types) _ (suc lastKey) 18 144 (z .types)
       ∙ part-past (d .closed) _ 18 0 144 (z .closed) ∙ take-at (d .counts) _ 144 (z .counts)
 
   held-at : heldIn (bytesOf d) ≡ d .held
   unfolding bytesOf
   held-at =
-      part-past (d .map) _ 144 267 144 (z .map) ∙ part-past (d .types) _ 105 162 144 (z .types)
+      part-past (d .map) _ 144 (suc lastKey + 162) 144 (z .map) ∙ part-past (d .types) _ (suc lastKey) 162 144 (z .types)
       ∙ part-past (d .closed) _ 18 144 144 (z .closed) ∙ part-past (d .counts) _ 144 0 144 (z .counts)
       ∙ take-at (d .held) _ 144 (z .held)
 
-  queue-at : part 555 16 (bytesOf d) ≡ d .rest .outgoing .queue .bytes
+  queue-at : part queueAt 16 (bytesOf d) ≡ d .rest .outgoing .queue .bytes
   unfolding bytesOf restBytes
   queue-at =
-      part-past (d .map) _ 144 411 16 (z .map) ∙ part-past (d .types) _ 105 306 16 (z .types)
+      part-past (d .map) _ 144 (suc lastKey + 306) 16 (z .map) ∙ part-past (d .types) _ (suc lastKey) 306 16 (z .types)
       ∙ part-past (d .closed) _ 18 288 16 (z .closed) ∙ part-past (d .counts) _ 144 144 16 (z .counts)
       ∙ part-past (d .held) _ 144 0 16 (z .held) ∙ take-at (d .rest .outgoing .queue .bytes) _ 16 (z .queue)
 
-  small-at : (j : ℕ) → getD (bytesOf d) (144 + (105 + (18 + (144 + (144 + (16 + j)))))) 0 ≡ getD (smallOf (d .rest)) j 0
+  small-at : (j : ℕ) → getD (bytesOf d) (144 + (suc lastKey + (18 + (144 + (144 + (16 + j)))))) 0 ≡ getD (smallOf (d .rest)) j 0
   unfolding bytesOf restBytes
   small-at j =
-      getD-past (d .map) _ 144 _ (z .map) ∙ getD-past (d .types) _ 105 _ (z .types)
+      getD-past (d .map) _ 144 _ (z .map) ∙ getD-past (d .types) _ (suc lastKey) _ (z .types)
       ∙ getD-past (d .closed) _ 18 _ (z .closed) ∙ getD-past (d .counts) _ 144 _ (z .counts)
       ∙ getD-past (d .held) _ 144 _ (z .held) ∙ getD-past (d .rest .outgoing .queue .bytes) _ 16 j (z .queue)
 
@@ -159,8 +160,8 @@ module _ (d : Dock) (z : IsSized d) where
   bytes-are-record h =
       rw (
         eq-eqb (length (bytesOf d)) size bytes-size,
-        le-leb (getD (bytesOf d) 581 0) 1 (rw (small-at 10) (flag-small (d .rest .scanning))),
-        le-leb (getD (bytesOf d) 583 0) 1 (rw (small-at 12) (flag-small (d .rest .handover))),
+        le-leb (small 10 (bytesOf d)) 1 (rw (small-at 10) (flag-small (d .rest .scanning))),
+        le-leb (small 12 (bytesOf d)) 1 (rw (small-at 12) (flag-small (d .rest .handover))),
         record-back,
         h,
       )

@@ -1,18 +1,37 @@
 -- The record as bytes (docs/RECORD.md, "As bytes"). Assumes nothing.
-use Prim.Native.Nat.{ℕ, _+_}
+use Prim.Native.Nat.{ℕ, suc, _+_}
 use mathlib.Core.Bool.{Bool, true, false}
 use mathlib.Core.List.{List, [], _∷_, _++_}
 use lib.Dec.{eqb, leb}
 use lib.ListN.{length, getD, take, drop}
 use Rattle.basics.specs.Choice.{both}
+use Rattle.keys.specs.Keys.{lastKey}
 use Rattle.record.specs.declared.Rest.{Rest}
 use Rattle.record.specs.declared.Dock.{Dock}
 use Rattle.record.specs.Parts.{dockWith}
 use Rattle.range.specs.Range.{inRange}
 
--- A record has so many bytes.
+-- Where the parts begin behind the map, each behind the one before it, and how many bytes there are.
+abbrev pub typesAt : ℕ
+typesAt = 144
+
+abbrev pub closedAt : ℕ
+closedAt = typesAt + suc lastKey
+
+abbrev pub countsAt : ℕ
+countsAt = closedAt + 18
+
+abbrev pub heldAt : ℕ
+heldAt = countsAt + 144
+
+abbrev pub queueAt : ℕ
+queueAt = heldAt + 144
+
+abbrev pub smallAt : ℕ
+smallAt = queueAt + 16
+
 abbrev pub size : ℕ
-size = 585
+size = smallAt + 14
 
 -- A flag as a byte.
 abbrev pub flagOf : Bool → ℕ
@@ -42,32 +61,36 @@ abbrev pub mapIn : List ℕ → List ℕ
 mapIn l = part 0 144 l
 
 abbrev pub typesIn : List ℕ → List ℕ
-typesIn l = part 144 105 l
+typesIn l = part typesAt (suc lastKey) l
 
 abbrev pub closedIn : List ℕ → List ℕ
-closedIn l = part 249 18 l
+closedIn l = part closedAt 18 l
 
 abbrev pub countsIn : List ℕ → List ℕ
-countsIn l = part 267 144 l
+countsIn l = part countsAt 144 l
 
 abbrev pub heldIn : List ℕ → List ℕ
-heldIn l = part 411 144 l
+heldIn l = part heldAt 144 l
+
+-- a number or flag by its place behind the queue's,
+abbrev pub small : ℕ → List ℕ → ℕ
+small n l = getD l (smallAt + n) 0
 
 -- and the rest.
 unfoldable pub restIn : List ℕ → Rest
 restIn l =
     record {
       outgoing = record {
-        queue = record { bytes = part 555 16 l; length = getD l 571 0 };
-        repeating = getD l 572 0;
-        countdown = getD l 573 0;
+        queue = record { bytes = part queueAt 16 l; length = small 0 l };
+        repeating = small 1 l;
+        countdown = small 2 l;
       };
-      mode = record { set = getD l 574 0; rate = getD l 575 0; indicators = getD l 576 0 };
-      replies = record { bytes = getD l 577 0 ∷ getD l 578 0 ∷ getD l 579 0 ∷ []; length = getD l 580 0 };
-      scanning = eqb (getD l 581 0) 1;
-      waiting = getD l 582 0;
-      handover = eqb (getD l 583 0) 1;
-      given = getD l 584 0;
+      mode = record { set = small 3 l; rate = small 4 l; indicators = small 5 l };
+      replies = record { bytes = small 6 l ∷ small 7 l ∷ small 8 l ∷ []; length = small 9 l };
+      scanning = eqb (small 10 l) 1;
+      waiting = small 11 l;
+      handover = eqb (small 12 l) 1;
+      given = small 13 l;
     }
 
 abbrev pub recordIn : List ℕ → Dock
@@ -76,7 +99,7 @@ recordIn l = dockWith (mapIn l) (closedIn l) (countsIn l) (heldIn l) (typesIn l)
 -- Bytes are a record: as many as it has, its flags 0 or 1, and every part in its range.
 unfoldable pub isRecord : List ℕ → Bool
 isRecord l =
-    both (eqb (length l) size) (both (leb (getD l 581 0) 1) (both (leb (getD l 583 0) 1) (inRange (recordIn l))))
+    both (eqb (length l) size) (both (leb (small 10 l) 1) (both (leb (small 12 l) 1) (inRange (recordIn l))))
 
 -- Bytes with others at a place, over as many.
 unfoldable pub putAt : ℕ → List ℕ → List ℕ → List ℕ

@@ -1,11 +1,24 @@
 // The record in lent bytes, and whether they are one.
 use crate::CLOSED;
+use crate::COUNTDOWN;
 use crate::COUNTS;
+use crate::FIRST_REPLY;
+use crate::GIVEN;
+use crate::HANDOVER;
 use crate::HELD;
+use crate::INDICATORS;
 use crate::QUEUE;
+use crate::QUEUED;
+use crate::RATE;
+use crate::REPEATING;
+use crate::REPLIES;
+use crate::SCANNING;
+use crate::SECOND_REPLY;
+use crate::SET;
 use crate::SIZE;
-use crate::SMALL;
+use crate::THIRD_REPLY;
 use crate::TYPES;
+use crate::WAITING;
 use crate::fill;
 use contacts::Columns;
 use contacts::Counts;
@@ -74,29 +87,29 @@ pub fn rest_in(lent: &[u8]) -> Rest
     ensures { λ r. ⌜ r ≡ restIn (now (lent .entry)) ⌝ }
 {
     let mut bytes = [0u8; 16];
-    fill(&mut bytes, &lent[QUEUE..SMALL]);
+    fill(&mut bytes, &lent[QUEUE..QUEUED]);
     Rest {
         outgoing: Outgoing {
             queue: Queue {
                 bytes,
-                length: lent[SMALL] as usize,
+                length: lent[QUEUED] as usize,
             },
-            repeating: lent[572],
-            countdown: lent[573],
+            repeating: lent[REPEATING],
+            countdown: lent[COUNTDOWN],
         },
         mode: Mode {
-            set: lent[574],
-            rate: lent[575],
-            indicators: lent[576],
+            set: lent[SET],
+            rate: lent[RATE],
+            indicators: lent[INDICATORS],
         },
         replies: Replies {
-            bytes: [lent[577], lent[578], lent[579]],
-            length: lent[580],
+            bytes: [lent[FIRST_REPLY], lent[SECOND_REPLY], lent[THIRD_REPLY]],
+            length: lent[REPLIES],
         },
-        scanning: lent[581] == 1,
-        waiting: lent[582],
-        handover: lent[583] == 1,
-        given: lent[584],
+        scanning: lent[SCANNING] == 1,
+        waiting: lent[WAITING],
+        handover: lent[HANDOVER] == 1,
+        given: lent[GIVEN],
     }
 }
 
@@ -129,8 +142,8 @@ pub fn is_record(lent: &[u8]) -> bool
         return false;
     }
     let rest = rest_in(lent);
-    (lent[581] <= 1)
-        & (lent[583] <= 1)
+    (lent[SCANNING] <= 1)
+        & (lent[HANDOVER] <= 1)
         & range::all_up_to(keys::LAST_KEY, &lent[0..TYPES])
         & range::is_good_rest(rest)
 }

@@ -4,7 +4,7 @@ use crate::CLOSED;
 use crate::COUNTS;
 use crate::HELD;
 use crate::QUEUE;
-use crate::SMALL;
+use crate::QUEUED;
 use crate::TYPES;
 use crate::put;
 use contacts::Columns;
@@ -18,7 +18,7 @@ ghost use mathlib.Core.List.{_++_};
 ghost use Prim.Native.Nat.{_≤_};
 ghost use lib.ListN.{length, take};
 ghost use Rattle.record.specs.Parts.{dockWith};
-ghost use Rattle.layout.specs.Layout.{size, flagOf, smallOf, restBytes, bytesOf};
+ghost use Rattle.layout.specs.Layout.{typesAt, closedAt, heldAt, queueAt, size, flagOf, smallOf, restBytes, bytesOf};
 
 // A flag as a byte.
 fn flag(on: bool) -> u8
@@ -57,20 +57,20 @@ fn small_of(rest: Rest) -> [u8; 14]
 // All but the arrays,
 pub fn put_rest(lent: &mut [u8], rest: Rest)
     requires { ⌜ record { size : length (now lent) ≡ size; short : rest .outgoing .queue .length ≤ 16 } ⌝ }
-    ensures { λ r. ⌜ now (lent .exit) ≡ take 555 (now (lent .entry)) ++ restBytes rest ⌝ }
+    ensures { λ r. ⌜ now (lent .exit) ≡ take queueAt (now (lent .entry)) ++ restBytes rest ⌝ }
 {
     let outgoing = rest.outgoing;
     let queue = outgoing.queue;
     let bytes = queue.bytes;
     let small = small_of(rest);
-    put(lent, SMALL, &small);
+    put(lent, QUEUED, &small);
     put(lent, QUEUE, &bytes);
 }
 
 // and the held keys,
 pub fn put_held(lent: &mut [u8], held: Held, rest: Rest)
     requires { ⌜ record { size : length (now lent) ≡ size; short : rest .outgoing .queue .length ≤ 16 } ⌝ }
-    ensures { λ r. ⌜ now (lent .exit) ≡ take 411 (now (lent .entry)) ++ (held ++ restBytes rest) ⌝ }
+    ensures { λ r. ⌜ now (lent .exit) ≡ take heldAt (now (lent .entry)) ++ (held ++ restBytes rest) ⌝ }
 {
     put_rest(lent, rest);
     put(lent, HELD, &held);
@@ -79,7 +79,7 @@ pub fn put_held(lent: &mut [u8], held: Held, rest: Rest)
 // and the contacts,
 pub fn put_contacts(lent: &mut [u8], closed: Columns, counts: Counts, held: Held, rest: Rest)
     requires { ⌜ record { size : length (now lent) ≡ size; short : rest .outgoing .queue .length ≤ 16 } ⌝ }
-    ensures { λ r. ⌜ now (lent .exit) ≡ take 249 (now (lent .entry)) ++ (closed ++ (counts ++ (held ++ restBytes rest))) ⌝ }
+    ensures { λ r. ⌜ now (lent .exit) ≡ take closedAt (now (lent .entry)) ++ (closed ++ (counts ++ (held ++ restBytes rest))) ⌝ }
 {
     put_held(lent, held, rest);
     put(lent, COUNTS, &counts);
@@ -96,7 +96,7 @@ pub fn put_types(
     rest: Rest,
 )
     requires { ⌜ record { size : length (now lent) ≡ size; short : rest .outgoing .queue .length ≤ 16 } ⌝ }
-    ensures { λ r. ⌜ now (lent .exit) ≡ take 144 (now (lent .entry)) ++ (types ++ (closed ++ (counts ++ (held ++ restBytes rest)))) ⌝ }
+    ensures { λ r. ⌜ now (lent .exit) ≡ take typesAt (now (lent .entry)) ++ (types ++ (closed ++ (counts ++ (held ++ restBytes rest)))) ⌝ }
 {
     put_contacts(lent, closed, counts, held, rest);
     put(lent, TYPES, &types);

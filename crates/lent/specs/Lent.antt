@@ -1,6 +1,5 @@
 -- The calls from C, on a record that is lent as bytes (docs/RULES.md, section 14; include/keydock.h). Assumes nothing.
 use Prim.Native.Nat.{ℕ, _+_}
-use mathlib.Core.Bool.{Bool}
 use mathlib.Core.List.{List}
 use lib.Dec.{eqb}
 use lib.IntN.{ℤ, pos}
@@ -13,7 +12,7 @@ use Rattle.dock.specs.declared.Answered.{Answered}
 use Rattle.dock.specs.declared.Given.{Given}
 use Rattle.dock.specs.declared.Given.the-variants.{Nothing, Reply, KeyByte, Refused}
 use Rattle.dock.specs.declared.Taken.{Taken}
-use Rattle.dock.specs.Answers.{answerSays, givenSays, aReply, aKeyByte}
+use Rattle.dock.specs.Answers.{answerSays, givenSays}
 use Rattle.dock.specs.Calls.{Call, Scan, Swap, Frame, Read}
 use Rattle.dock.specs.Scan.{scanOf}
 use Rattle.dock.specs.Swap.{swapOf}

@@ -1,8 +1,9 @@
 -- The sizes of the record's arrays. Assumes nothing.
-use Prim.Native.Nat.{ℕ}
+use Prim.Native.Nat.{ℕ, suc}
 use mathlib.Core.Path.{_≡_}
 use mathlib.Core.List.{List}
 use lib.ListN.{length}
+use Rattle.keys.specs.Keys.{lastKey}
 use Rattle.record.specs.declared.Dock.{Dock}
 
 -- Arrays of these sizes.
@@ -11,7 +12,7 @@ pub record Sized (map′ closed′ counts′ held′ types′ queue′ replies�
   pub closed : length closed′ ≡ 18
   pub counts : length counts′ ≡ 144
   pub held : length held′ ≡ 144
-  pub types : length types′ ≡ 105
+  pub types : length types′ ≡ suc lastKey
   pub queue : length queue′ ≡ 16
   pub replies : length replies′ ≡ 3
 

@@ -1,3 +1,4 @@
 pub mod Bytes
 pub mod Sessions
 pub mod Demands
+pub mod FromC

@@ -1,5 +1,5 @@
 -- `keydock_frame` meets its contract: the host's byte is taken on a copy, and all but the map is put back. Assumes nothing.
-use mathlib.Core.Path.{refl, ap, _∙_}
+use mathlib.Core.Path.{ap, _∙_}
 use borrow.Author.Needs.{needs}
 use Rattle.dock.specs.Calls.{Frame}
 use Rattle.range.proofs.Ranges.{in-range-rest}

@@ -1,7 +1,6 @@
 -- `keydock_power_on` meets its contract: a fresh record is put into as many bytes as a record has. Assumes nothing.
 use mathlib.Core.Path.{ap, _∙_}
 use borrow.Author.Needs.{needs}
-use Rattle.record.specs.declared.Dock.{Dock}
 use Rattle.layout.specs.Layout.{bytesOf}
 use Rattle.lent.proofs.Lending.{not-woken, woken, fresh-short}
 use Rattle.lent.proofs.keydock_power_on.Statement.{statement}

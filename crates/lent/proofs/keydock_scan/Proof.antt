@@ -1,5 +1,5 @@
 -- `keydock_scan` meets its contract: the scan is made on a copy, and all but the map and the types is put back. Assumes nothing.
-use mathlib.Core.Path.{refl, ap, _∙_}
+use mathlib.Core.Path.{ap, _∙_}
 use borrow.Author.Needs.{needs}
 use Rattle.dock.specs.Calls.{Scan}
 use Rattle.layout.proofs.Fronts.{contacts-put}

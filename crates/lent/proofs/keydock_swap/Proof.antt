@@ -1,5 +1,5 @@
 -- `keydock_swap` meets its contract: the swap is made on a copy, and the whole record is put back. Assumes nothing.
-use mathlib.Core.Path.{refl, ap, _∙_}
+use mathlib.Core.Path.{ap, _∙_}
 use borrow.Author.Needs.{needs}
 use Rattle.dock.specs.Calls.{Swap}
 use Rattle.layout.proofs.Records.{record-size}

@@ -1,12 +1,12 @@
 -- `reading::rest_in` meets its contract: the queue's places are copied, and each number and flag is the byte at its place. Assumes nothing.
 use native.Mathlib.Omega.{arith}
 use borrow.Author.Needs.{needs}
-use Rattle.layout.specs.Layout.{restIn}
+use Rattle.layout.specs.Layout.{smallAt, restIn}
 use Rattle.layout.proofs.reading.rest_in.Statement.{statement}
 use Rattle.layout.proofs.reading.rest_in.Tie as tie
 
 cast-t7 : tie.Need-cast-t7
-cast-t7 c = omega (arith, c .shared-slice-known2 .given 571)
+cast-t7 c = omega (arith, c .shared-slice-known2 .given smallAt)
 
 returns : tie.Need-returns
 unfolding restIn

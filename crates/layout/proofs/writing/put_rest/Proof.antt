@@ -5,7 +5,7 @@ use Prim.Native.Nat.{ℕ}
 use native.Mathlib.Omega.{arith}
 use borrow.Author.Needs.{needs}
 use lib.ListN.{length, take}
-use Rattle.layout.specs.Layout.{restBytes}
+use Rattle.layout.specs.Layout.{queueAt, smallAt, restBytes}
 use Rattle.layout.proofs.Putting.{put-last, put-next, small-length}
 use Rattle.layout.proofs.writing.put_rest.Statement.{statement}
 use Rattle.layout.proofs.writing.put_rest.Tie as tie
@@ -22,8 +22,8 @@ returns c =
     let s = c .before .before .before .before .before .before .before .before .before .before .before .before .before .before .before in
     let l = s .args .lent .now in
     let result = c .before .before .before .before .before .before .before .before .before .before .small-of .ensures in
-    let small = put-last l _ _ 571 (c .before .before .before .before .before .before .before .put .ensures) (omega (arith, ap length result, small-length (s .args .rest), s .pre .size)) in
-    put-next l _ _ _ _ 555 16 (c .before .before .put2 .ensures) (small ∙ ap (λ (y : List ℕ). take 571 l ++ y) result)
+    let small = put-last l _ _ smallAt (c .before .before .before .before .before .before .before .put .ensures) (omega (arith, ap length result, small-length (s .args .rest), s .pre .size)) in
+    put-next l _ _ _ _ queueAt 16 (c .before .before .put2 .ensures) (small ∙ ap (λ (y : List ℕ). take smallAt l ++ y) result)
     (search (needs, s .good .1 .0 .1 .1 .0)) (omega (arith, s .pre .size))
 
 pub put-rest-spec : {M : Type 1} → statement M
