@@ -1,10 +1,15 @@
 /* Makes one call of the C interface again and again, so that its instructions can be counted:
  *
- *     calls proved|independent NAME COUNT
+ *     calls proved|independent NAME COUNT <LINES
  *
  * Each is called through a pointer, and `nothing` is called in the same way: what that takes is to
  * be taken off.
+ *
+ * A call on a record finds it each time as all lines but the last have left it, and passes what the
+ * last line says: `line` is the call that this line is. Here `untouched` is what is to be taken off,
+ * with the same lines.
  */
+#include <stdbool.h>
 #include <stdio.h>
 #include <stdlib.h>
 #include <string.h>
@@ -12,7 +17,10 @@
 #include "../independent/codes.h"
 #include "../independent/frames.h"
 #include "../independent/reader.h"
+#include "asking.h"
 #include "keydock.h"
+
+/* Calls without a record. */
 
 static uint8_t out[KEYDOCK_CODES_MAX];
 
@@ -20,14 +28,14 @@ static int nothing(void) { return 0; }
 
 static int proved_letter(void)
 {
-    return keydock_key_codes(2, KEYDOCK_KEY_A, KEYDOCK_PRESS, KEYDOCK_TYPEMATIC, 0, 0, out, sizeof out);
+    return keydock_key_codes(2, KEYDOCK_KEY_A, KEYDOCK_PRESS, KEYDOCK_TYPE_TYPEMATIC, 0, 0, out, sizeof out);
 }
 
 static int independent_letter(void) { return encode(2, KEYDOCK_KEY_A, PRESS, 0, 0, 0, out, sizeof out); }
 
 static int proved_wrapped(void)
 {
-    return keydock_key_codes(2, KEYDOCK_KEY_UP, KEYDOCK_PRESS, KEYDOCK_TYPEMATIC,
+    return keydock_key_codes(2, KEYDOCK_KEY_UP, KEYDOCK_PRESS, KEYDOCK_TYPE_TYPEMATIC,
                              KEYDOCK_HELD_SHIFT_LEFT | KEYDOCK_HELD_SHIFT_RIGHT, 0, out, sizeof out);
 }
 
@@ -40,6 +48,10 @@ static int independent_byte(void) { return read_key_byte(2, SEEN_NOTHING, 0x1C);
 static int proved_prefixed(void) { return keydock_read_byte(2, SEEN_E0, 0x75); }
 
 static int independent_prefixed(void) { return read_key_byte(2, SEEN_E0, 0x75); }
+
+static int proved_press(void) { return keydock_read_press(2, KEYDOCK_STATE_START, 0x1C); }
+
+static int independent_press(void) { return read_key_press(2, SEEN_NOTHING, 0x1C); }
 
 static int proved_pack(void) { return keydock_pack_frame(0xFA); }
 
@@ -59,22 +71,84 @@ static const struct {
     {"wrapped", proved_wrapped, independent_wrapped},
     {"byte", proved_byte, independent_byte},
     {"prefixed", proved_prefixed, independent_prefixed},
+    {"press", proved_press, independent_press},
     {"pack", proved_pack, independent_pack},
     {"unpack", proved_unpack, independent_unpack},
 };
 
+static unsigned repeat(int (*asked)(void), long count)
+{
+    unsigned sum = 0;
+    while (count-- > 0)
+        sum += (unsigned)asked();
+    return sum;
+}
+
+/* Calls on a record. */
+
+static uint8_t record[KEYDOCK_RECORD_SIZE], prepared[KEYDOCK_RECORD_SIZE];
+static uint8_t passed[LINE_BYTES_MAX];
+static struct call call = {.kind = POWER_ON};
+
+static int32_t leave_untouched(void *lent, size_t size, const struct call *asked)
+{
+    (void)lent, (void)size, (void)asked;
+    return 0;
+}
+
+/* A line's call is made when the next line comes, so that of the last is left. */
+static void prepare_record(void)
+{
+    char *line = NULL;
+    size_t room = 0;
+    ssize_t length;
+
+    while ((length = getline(&line, &room, stdin)) > 0) {
+        asking[call.kind].proved(prepared, sizeof prepared, &call);
+        call = call_of_line(line, (size_t)length - 1, passed);
+    }
+    free(line);
+}
+
+static unsigned repeat_on_record(ask *asked, long count)
+{
+    unsigned sum = 0;
+    while (count-- > 0) {
+        memcpy(record, prepared, sizeof record);
+        sum += (unsigned)asked(record, sizeof record, &call);
+    }
+    return sum;
+}
+
+static ask *call_on_record(bool of_proved, const char *name)
+{
+    if (strcmp(name, "untouched") == 0)
+        return leave_untouched;
+    if (strcmp(name, "line") == 0)
+        name = asking[call.kind].name;
+    for (size_t i = 0; i < CALL_KINDS; i++)
+        if (strcmp(name, asking[i].name) == 0)
+            return of_proved ? asking[i].proved : asking[i].independent;
+    return NULL;
+}
+
 int main(int count, char **words)
 {
-    if (count == 4)
+    if (count == 4) {
+        bool of_proved = strcmp(words[1], "proved") == 0;
+        long times = strtol(words[3], NULL, 10);
         for (size_t i = 0; i < sizeof calls / sizeof *calls; i++)
             if (strcmp(words[2], calls[i].name) == 0) {
-                int (*call)(void) = strcmp(words[1], "proved") == 0 ? calls[i].proved : calls[i].independent;
-                unsigned sum = 0;
-                for (long n = strtol(words[3], NULL, 10); n > 0; n--)
-                    sum += (unsigned)call();
-                printf("%u\n", sum);
+                printf("%u\n", repeat(of_proved ? calls[i].proved : calls[i].independent, times));
                 return 0;
             }
-    fputs("usage: calls proved|independent NAME COUNT\n", stderr);
+        prepare_record();
+        ask *asked = call_on_record(of_proved, words[2]);
+        if (asked != NULL) {
+            printf("%u\n", repeat_on_record(asked, times));
+            return 0;
+        }
+    }
+    fputs("usage: calls proved|independent NAME COUNT <LINES\n", stderr);
     return 2;
 }

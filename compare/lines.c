@@ -4,55 +4,22 @@
 #include <stdlib.h>
 #include <string.h>
 
-enum { COLUMNS = 18, POSITIONS = 144 };
-
-enum {
-    SHIFT_L = 42, SHIFT_R = 53, CTRL_L = 54, ALT_L = 55, ALT_R = 57, CTRL_R = 58,
-    PAD_SLASH = 70, PRINT = 99, PAUSE = 101
-};
-
-static const uint8_t modifiers[] = {SHIFT_L, SHIFT_R, CTRL_L, CTRL_R, ALT_L, ALT_R};
+static const uint8_t modifiers[] = {KEY_SHIFT_L, KEY_SHIFT_R, KEY_CTRL_L, KEY_CTRL_R, KEY_ALT_L, KEY_ALT_R};
 
 /* Keys with forms or types of their own, and their make codes in set 3. */
 static const struct { uint8_t key, set3; } special[] = {
     {59, 0x67}, {60, 0x64}, {61, 0x6E}, {62, 0x65}, {63, 0x6F}, {64, 0x6D},
     {65, 0x63}, {66, 0x61}, {67, 0x60}, {68, 0x6A}, {28, 0x5C}, {29, 0x14},
     {30, 0x1C}, {73, 0x7C}, {104, 0x8D},
-    {PAD_SLASH, 0x77}, {PRINT, 0x57}, {PAUSE, 0x62},
-    {PAD_SLASH, 0x77}, {PRINT, 0x57}, {PAUSE, 0x62}
+    {KEY_PAD_SLASH, 0x77}, {KEY_PRINT, 0x57}, {KEY_PAUSE, 0x62},
+    {KEY_PAD_SLASH, 0x77}, {KEY_PRINT, 0x57}, {KEY_PAUSE, 0x62}
 };
 
-static uint64_t random_state;
 static unsigned long lines_left; /* with the last, which is a case of its own */
 static unsigned long bytes_printed;
 static uint8_t map[POSITIONS];    /* of the panel now clipped on */
 static uint8_t contacts[COLUMNS]; /* now closed */
 unsigned reads_percent;
-
-/* Chance: splitmix64. */
-
-static uint64_t random_bits(void)
-{
-    uint64_t z = random_state += UINT64_C(0x9E3779B97F4A7C15);
-    z = (z ^ z >> 30) * UINT64_C(0xBF58476D1CE4E5B9);
-    z = (z ^ z >> 27) * UINT64_C(0x94D049BB133111EB);
-    return z ^ z >> 31;
-}
-
-unsigned below(unsigned bound)
-{
-    return (unsigned)(random_bits() % bound);
-}
-
-unsigned between(unsigned low, unsigned high)
-{
-    return low + below(high - low + 1);
-}
-
-bool chance(unsigned percent)
-{
-    return below(100) < percent;
-}
 
 /* Lines. */
 
@@ -98,15 +65,6 @@ void scans(unsigned count)
 {
     while (count-- > 0)
         scan_of(contacts);
-}
-
-static unsigned frame_of(unsigned byte)
-{
-    unsigned ones = 0;
-    for (unsigned bit = 0; bit < 8; bit++)
-        ones += byte >> bit & 1;
-    unsigned parity = ones % 2 == 0 ? 0x200 : 0;
-    return byte << 1 | parity | 0x400;
 }
 
 void host(unsigned byte)
@@ -224,56 +182,16 @@ void noisy_scan(void)
 
 /* Maps. */
 
-static void make_plain_map(uint8_t made[POSITIONS])
-{
-    for (unsigned i = 0; i < POSITIONS; i++)
-        made[i] = i < KEY_COUNT ? (uint8_t)(i + 1) : 0;
-}
-
-static void shuffle(uint8_t *bytes, unsigned count)
-{
-    for (unsigned i = count; i > 1; i--) {
-        unsigned other = below(i);
-        uint8_t kept = bytes[i - 1];
-        bytes[i - 1] = bytes[other];
-        bytes[other] = kept;
-    }
-}
-
-static void make_map(uint8_t made[POSITIONS])
-{
-    make_plain_map(made);
-    unsigned kind = below(10);
-    if (kind >= 3)
-        shuffle(made, kind < 7 ? POSITIONS : KEY_COUNT);
-    if (kind == 8)
-        for (unsigned i = 0; i < POSITIONS; i++)
-            made[i] = chance(70) ? 0 : made[i];
-    if (kind == 9)
-        memset(made, 0, POSITIONS);
-}
-
 void swap(void)
 {
-    make_map(map);
+    draw_map(map);
     put_bytes(map, POSITIONS);
 }
 
 void swap_refused(void)
 {
     uint8_t made[POSITIONS];
-    unsigned faults = between(1, 3);
-
-    make_map(made);
-    if (faults & 1) {
-        unsigned place = chance(30) ? POSITIONS - 1 : below(POSITIONS);
-        made[place] = (uint8_t)between(105, 255);
-    }
-    if (faults & 2) {
-        unsigned place = below(POSITIONS - 1);
-        unsigned other = chance(30) ? POSITIONS - 1 : between(place + 1, POSITIONS - 1);
-        made[place] = made[other] = (uint8_t)between(1, KEY_COUNT);
-    }
+    draw_wrong_map(made);
     put_bytes(made, POSITIONS);
 }
 
@@ -304,11 +222,10 @@ static unsigned some_value(unsigned command)
 
 static unsigned some_command(void)
 {
-    static const uint8_t with_value[] = {0xED, 0xF0, 0xF3, 0xFB, 0xFC, 0xFD};
     if (chance(15))
         return 0xFE;
     if (chance(50))
-        return with_value[below(LENGTH(with_value))];
+        return draw_valued_command();
     if (chance(5))
         return below(256);
     unsigned byte = between(0xED, 0xFF);
@@ -426,7 +343,7 @@ void malformed_line(void)
 
 void begin_session(uint64_t seed, unsigned long lines)
 {
-    random_state = seed;
+    begin_drawing(seed);
     lines_left = lines;
     make_plain_map(map);
 }

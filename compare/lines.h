@@ -5,22 +5,11 @@
 #ifndef LINES_H
 #define LINES_H
 
-#include <stdbool.h>
-#include <stdint.h>
-
-#define LENGTH(array) (sizeof(array) / sizeof(array)[0])
-
-enum { KEY_COUNT = 104 };
+#include "drawn.h"
 
 void begin_session(uint64_t seed, unsigned long lines);
 bool session_goes_on(void); /* more than the last line is to come */
 void put_last_line(void);   /* often without its newline */
-
-/* Chance. No expression may draw twice where the order would tell, as that
- * order is the compiler's to choose. */
-unsigned below(unsigned bound);
-unsigned between(unsigned low, unsigned high); /* both of them included */
-bool chance(unsigned percent);
 
 /* The terminal's reads. After a scan or a host byte it reads by itself, as
  * eagerly as this says. */

@@ -27,7 +27,7 @@ bool is_in_range(const struct dock *dock)
 
 void set_default_types(struct dock *dock)
 {
-    for (unsigned key = 1; key <= KEY_COUNT; key++)
+    for (unsigned key = 0; key <= KEY_COUNT; key++)
         set_type(dock, key, keys[key].type);
 }
 
@@ -94,7 +94,7 @@ void continue_handover(struct dock *dock)
         if (!fits(dock, length))
             return;
         push_sequence(dock, sequence, length);
-        set_held(dock, key, false);
+        let_go(dock, key);
     }
     dock->handover = 0;
 }

@@ -32,7 +32,7 @@ struct dock {
     struct columns twice; /* and in the one before it too: any */
 
     uint8_t held[13];  /* bit k - 1 for key k: any bits */
-    uint8_t types[26]; /* two bits a key, its set 3 type: any bits */
+    uint8_t types[27]; /* two bits a key number from 0 on, its set 3 type: any bits */
 
     uint8_t queue[QUEUE_SIZE]; /* a ring of key bytes: any bytes */
     uint8_t queue_head;        /* 0 to 15 */

@@ -64,7 +64,7 @@ static void set_default(struct dock *dock)
 
 static void set_all_types(struct dock *dock, unsigned type)
 {
-    for (unsigned key = 1; key <= KEY_COUNT; key++)
+    for (unsigned key = 0; key <= KEY_COUNT; key++)
         set_type(dock, key, type);
 }
 

@@ -25,13 +25,13 @@ static inline void set_held(struct dock *dock, unsigned key, bool held)
 
 static inline unsigned get_type(const struct dock *dock, unsigned key)
 {
-    return dock->types[(key - 1) / 4] >> (key - 1) % 4 * 2 & 3;
+    return dock->types[key / 4] >> key % 4 * 2 & 3;
 }
 
 static inline void set_type(struct dock *dock, unsigned key, unsigned type)
 {
-    uint8_t *four = &dock->types[(key - 1) / 4];
-    unsigned shift = (key - 1) % 4 * 2;
+    uint8_t *four = &dock->types[key / 4];
+    unsigned shift = key % 4 * 2;
     *four = (uint8_t)((*four & ~(3u << shift)) | type << shift);
 }
 
@@ -40,6 +40,9 @@ bool is_in_range(const struct dock *dock);
 void reset_all_but_map(struct dock *dock);
 void set_default_types(struct dock *dock);
 void continue_handover(struct dock *dock);
+
+/* scan.c: what a key's release leaves, in a scan or in a handover. */
+void let_go(struct dock *dock, unsigned key);
 
 /* host.c */
 bool takes_value(unsigned command);

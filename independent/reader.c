@@ -113,3 +113,13 @@ int read_key_byte(unsigned set, unsigned state, uint8_t byte)
         return -REFUSED_ARGUMENT;
     }
 }
+
+int read_key_press(unsigned set, unsigned state, uint8_t byte)
+{
+    int found = read_key_byte(set, state, byte);
+    if (found < 0)
+        return found;
+    if (found % 256 == READ_PRESS)
+        return found - READ_PRESS;
+    return found / 65536 * 65536;
+}

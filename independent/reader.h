@@ -38,4 +38,8 @@ enum reader_state {
  * state, else -REFUSED_ARGUMENT if there is no such set. */
 int read_key_byte(unsigned set, unsigned state, uint8_t byte);
 
+/* The same for presses alone: 256 * key + 65536 * next state, and the key is 0
+ * unless one was pressed. The same refusals. */
+int read_key_press(unsigned set, unsigned state, uint8_t byte);
+
 #endif

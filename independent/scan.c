@@ -55,12 +55,17 @@ static void press(struct dock *dock, unsigned key)
     }
 }
 
-static void release(struct dock *dock, unsigned key)
+void let_go(struct dock *dock, unsigned key)
 {
-    send_code(dock, key, RELEASE);
     set_held(dock, key, false);
     if (dock->repeating == key)
         dock->repeating = 0;
+}
+
+static void release(struct dock *dock, unsigned key)
+{
+    send_code(dock, key, RELEASE);
+    let_go(dock, key);
 }
 
 static void handle_changes(struct dock *dock, const struct columns *changed)
