@@ -1,22 +1,29 @@
 /* keydock.h: a PS/2 keyboard dock, and the codes and frames of PS/2 keyboards.
  *
- *     cc program.c -lkeydock          (x86-64 Linux)
+ *     cc program.c $(pkg-config --cflags --libs keydock)          (x86-64 Linux)
  *
- * A dock, whose record is lent to each call:
+ * A dock, whose record is lent to each call. The functions without keydock_ are the board's:
  *
  *     struct keydock dock;
  *     keydock_power_on(&dock, sizeof dock);
- *     for (;;) {
- *         keydock_scan(&dock, sizeof dock, columns, KEYDOCK_SCAN_SIZE);   240 times a second
- *         int32_t answer = keydock_read(&dock, sizeof dock);              when the host is ready
- *         if (KEYDOCK_GIVEN_KIND(answer) != KEYDOCK_GAVE_NOTHING)
- *             send(keydock_pack_frame(KEYDOCK_GIVEN_BYTE(answer)));
+ *     while (next_tick()) {                                      // 240 a second
+ *         uint8_t columns[KEYDOCK_SCAN_SIZE];
+ *         uint32_t frame;
+ *         read_matrix(columns);
+ *         keydock_scan(&dock, sizeof dock, columns, sizeof columns);
+ *         if (receive(&frame))                                   // a frame came from the host
+ *             keydock_frame(&dock, sizeof dock, frame);
+ *         if (host_is_ready()) {
+ *             int32_t answer = keydock_read(&dock, sizeof dock);
+ *             if (answer > 0)                                    // 0: nothing waits; below 0: refused
+ *                 send(keydock_pack_frame(KEYDOCK_GIVEN_BYTE(answer)));
+ *         }
  *     }
  *
  * What UP sends with the left SHIFT held, each byte with its frame:
  *
  *     uint8_t bytes[KEYDOCK_CODES_MAX];
- *     int32_t count = keydock_key_codes(2, KEYDOCK_KEY_UP, KEYDOCK_PRESS, KEYDOCK_TYPEMATIC,
+ *     int32_t count = keydock_key_codes(2, KEYDOCK_KEY_UP, KEYDOCK_PRESS, KEYDOCK_TYPE_TYPEMATIC,
  *                                       KEYDOCK_HELD_SHIFT_LEFT, 0, bytes, sizeof bytes);
  *     for (int32_t i = 0; i < count; i++)
  *         printf("%02X as frame %03X\n", (unsigned)bytes[i], (unsigned)keydock_pack_frame(bytes[i]));
@@ -38,8 +45,9 @@
  * said here. So any number may be passed, and any bytes: what is out of its range is refused. (A
  * negative number becomes a large one on its way to a uint32_t, and a number over 255 loses its
  * upper bits on its way to a uint8_t.) Two things no function can look at: whether memory that is
- * lent is there, as long as the argument behind it says, and whether two parts of it overlap. A
- * record must not overlap the scan or map that is passed with it.
+ * lent is there, as long as the argument behind it says, and whether two parts of it overlap. With
+ * a length of 0 none has to be there, and NULL will do. A record must not overlap the scan or map
+ * that is passed with it.
  *
  * Nothing is kept between calls and nothing is allocated. All functions may be called from
  * any number of threads at once, each record from one at a time.
@@ -54,9 +62,16 @@
 extern "C" {
 #endif
 
-#define KEYDOCK_VERSION "1.0.0"
+/* The version, as three numbers and as a string with dots between them. */
+#define KEYDOCK_VERSION_MAJOR 1
+#define KEYDOCK_VERSION_MINOR 0
+#define KEYDOCK_VERSION_PATCH 0
+#define KEYDOCK_VERSION KEYDOCK_DOTTED(KEYDOCK_VERSION_MAJOR, KEYDOCK_VERSION_MINOR, KEYDOCK_VERSION_PATCH)
+#define KEYDOCK_DOTTED(major, minor, patch) KEYDOCK_QUOTED(major) "." KEYDOCK_QUOTED(minor) "." KEYDOCK_QUOTED(patch)
+#define KEYDOCK_QUOTED(number) #number
 
-/* Refusals, and the one answer that is negative and no refusal. */
+/* Refusals, and the one answer that is negative and no refusal. Two of them share a number, as in the rules,
+ * and no function gives both: a switch can have a case for one of the two alone. */
 #define KEYDOCK_REFUSED_SCAN_LENGTH (-1) /* a scan that is not 18 bytes */
 #define KEYDOCK_REFUSED_MAP_LENGTH (-2)  /* a map that is not 144 bytes */
 #define KEYDOCK_REFUSED_MAP_ENTRY (-3)   /* a map entry over 104 */
@@ -64,29 +79,30 @@ extern "C" {
 #define KEYDOCK_REFUSED_FRAME (-5)       /* a frame number over 2047 */
 #define KEYDOCK_REFUSED_OUTPUT (-6)      /* a lent output under 8 bytes */
 #define KEYDOCK_REFUSED_CHOICE (-7)      /* a set, key, event, type, modifier or Num Lock choice out of its range */
-#define KEYDOCK_REFUSED_RECORD (-9)      /* bytes that are no dock's record */
-#define KEYDOCK_REFUSED_STATE (-9)       /* a reader state over 14 */
+#define KEYDOCK_REFUSED_RECORD (-9)      /* bytes that are no dock's record, of all functions that are lent one */
+#define KEYDOCK_REFUSED_STATE (-9)       /* a reader state over 14, of keydock_read_byte and keydock_read_press */
 #define KEYDOCK_BROKEN_FRAME (-256)      /* a frame with a wrong start, parity or stop bit */
 
 /* ---- the dock ---- */
 
-#define KEYDOCK_SIZE 585      /* bytes in a record */
-#define KEYDOCK_SCAN_SIZE 18  /* bytes in a scan: one for each column */
-#define KEYDOCK_MAP_SIZE 144  /* bytes in a panel's map: one for each position */
+#define KEYDOCK_RECORD_SIZE 585 /* bytes in a record */
+#define KEYDOCK_SCAN_SIZE 18    /* bytes in a scan: one for each column */
+#define KEYDOCK_MAP_SIZE 144    /* bytes in a panel's map: one for each position */
 
 /* The record of a dock: all that it knows. It may lie in any memory, and may be copied, stored and
  * loaded as any bytes may. What stands where in it is the library's own affair. Each call is also
  * given the record's size, sizeof (struct keydock), and refuses another, so that a program and a
  * library of different versions do not misread each other's records. */
 struct keydock {
-    uint8_t bytes[KEYDOCK_SIZE];
+    uint8_t bytes[KEYDOCK_RECORD_SIZE];
 };
 
-/* Each of these gives KEYDOCK_REFUSED_RECORD, before all else, if the bytes are no record: of
- * another size, or with a part out of its range. All that power-on and the calls leave is a record. */
+/* Each function that is lent a record gives KEYDOCK_REFUSED_RECORD, before all else, if the bytes are
+ * none: of another size, or, power-on excepted, with a part out of its range. All that power-on and the
+ * calls leave is a record. */
 
-/* Power-on, from any bytes of the right size: the plain map (key p + 1 at position p), nothing held, and
- * AA waits as a reply. 0. */
+/* Power-on, from any bytes of the right size: the plain map (key p + 1 at position p for all keys that there
+ * are, and none behind them), set 2, nothing held, and AA waits as a reply. 0. */
 int32_t keydock_power_on(struct keydock *dock, size_t size);
 
 /* One scan of the panel, to be made 240 times a second: byte c is column c, bit r of it row r, 1 for a
@@ -99,15 +115,17 @@ int32_t keydock_scan(struct keydock *dock, size_t size, const uint8_t *scan, siz
  * 0, or a refusal: KEYDOCK_REFUSED_MAP_LENGTH, else _MAP_ENTRY, else _MAP_DOUBLE. */
 int32_t keydock_swap(struct keydock *dock, size_t size, const uint8_t *map, size_t length);
 
-/* A frame came from the host. A broken one is taken, too: the dock asks for it again.
+/* A frame came from the host. A broken one is taken, too: the dock asks for it again. Any frame drops the
+ * replies that still wait. While a command waits for its value no scan is counted.
  * 0, or KEYDOCK_REFUSED_FRAME for a number over KEYDOCK_FRAME_MAX. */
 int32_t keydock_frame(struct keydock *dock, size_t size, uint32_t frame);
 
-/* The next byte for the host, replies before key bytes: two numbers in one. */
+/* The next byte for the host, replies before key bytes, and its kind, in one number: 0 if nothing waits,
+ * more than 0 if a byte was given. */
 int32_t keydock_read(struct keydock *dock, size_t size);
 
-/* What an answer of keydock_read holds, if it is no refusal: one of the kinds, and the byte, which is 0
- * where nothing was given. */
+/* What an answer of keydock_read holds that is 0 or more: one of the kinds, and the byte, which is 0 where
+ * nothing was given. Of a refusal they make nonsense. */
 enum { KEYDOCK_GAVE_NOTHING = 0, KEYDOCK_GAVE_REPLY = 1, KEYDOCK_GAVE_KEY_BYTE = 2 };
 #define KEYDOCK_GIVEN_KIND(answer) ((unsigned)(answer) >> 8)
 #define KEYDOCK_GIVEN_BYTE(answer) ((unsigned)(answer) & 255u)
@@ -116,7 +134,8 @@ enum { KEYDOCK_GAVE_NOTHING = 0, KEYDOCK_GAVE_REPLY = 1, KEYDOCK_GAVE_KEY_BYTE =
 enum { KEYDOCK_LAMP_SCROLL = 1, KEYDOCK_LAMP_NUM = 2, KEYDOCK_LAMP_CAPS = 4 };
 int32_t keydock_indicators(const struct keydock *dock, size_t size);
 
-/* 1 while the host wants scans to be heard, else 0. The dock takes care of it by itself: scans may go on. */
+/* 1 while the host wants scans to be heard, 0 after F5. The dock takes care of it by itself: scans may go on.
+ * It stays 1 while a command waits for its value, though no scan is counted then. */
 int32_t keydock_scanning(const struct keydock *dock, size_t size);
 
 /* ---- frames ---- */
@@ -167,13 +186,13 @@ enum {
 /* The event of a key: what it does, as keydock_key_codes is asked. */
 enum { KEYDOCK_PRESS = 0, KEYDOCK_RELEASE = 1, KEYDOCK_REPEAT = 2 };
 
-/* A key's type says in set 3 whether it sends a release and whether it repeats. In sets 1
+/* A key's type says in set 3 whether it sends a release and whether it repeats; PAUSE never does. In sets 1
  * and 2 it does not matter, but has to be one of these all the same. */
 enum {
-    KEYDOCK_TYPEMATIC = 0,           /* repeats */
-    KEYDOCK_MAKE_BREAK = 1,          /* sends a release */
-    KEYDOCK_MAKE = 2,                /* neither */
-    KEYDOCK_TYPEMATIC_MAKE_BREAK = 3 /* both */
+    KEYDOCK_TYPE_TYPEMATIC = 0,           /* repeats */
+    KEYDOCK_TYPE_MAKE_BREAK = 1,          /* sends a release */
+    KEYDOCK_TYPE_MAKE = 2,                /* neither */
+    KEYDOCK_TYPE_TYPEMATIC_MAKE_BREAK = 3 /* both */
 };
 
 /* The modifier keys that are held, added up. They do not matter in set 3. These are bits and no
@@ -190,19 +209,22 @@ enum {
 /* Writes to `out` what a key sends and gives the number of bytes, 0 to 8.
  *   set        1 to 3
  *   key        1 to 104
- *   event      KEYDOCK_PRESS, _RELEASE or _REPEAT; a repeat that is not allowed has no bytes
- *   type       KEYDOCK_TYPEMATIC .. KEYDOCK_TYPEMATIC_MAKE_BREAK
+ *   event      KEYDOCK_PRESS, _RELEASE or _REPEAT
+ *   type       KEYDOCK_TYPE_TYPEMATIC .. KEYDOCK_TYPE_TYPEMATIC_MAKE_BREAK
  *   modifiers  0 to 63: KEYDOCK_HELD_.. of those held at the event itself
  *   num_lock   0 off, 1 on
- *   out        `length` bytes that may be written; it may be NULL if `length` is 0
+ *   out        `length` bytes that may be written
  *   length     8 or more, even if fewer bytes would do
- * Only the bytes counted by the answer are written, the others keep what they hold.
+ * Only the bytes counted by the answer are written, the others keep what they hold. A repeat has none where
+ * it is not allowed: of PAUSE, and in set 3 of a type that does not repeat.
  * KEYDOCK_REFUSED_CHOICE for an argument out of its range, else KEYDOCK_REFUSED_OUTPUT for a
  * `length` under 8: then nothing is written. */
 int32_t keydock_key_codes(uint32_t set, uint32_t key, uint32_t event, uint32_t type, uint32_t modifiers,
                           uint32_t num_lock, uint8_t *out, size_t length);
 
-/* ---- reading key bytes back ---- */
+/* ---- reading key bytes back ----
+ * as a terminal does it, once it has taken the replies to its commands out. It has nothing to do with
+ * keydock_read, which is asked of a dock. */
 
 #define KEYDOCK_STATE_START 0 /* the state to begin in: nothing of a sequence was read */
 #define KEYDOCK_STATE_MAX 14
@@ -227,10 +249,12 @@ enum {
 int32_t keydock_read_byte(uint32_t set, uint32_t state, uint8_t byte);
 
 /* The same for who wants presses alone: the answer holds KEYDOCK_FOUND_KEY, which is 0 unless a key was
- * pressed, and KEYDOCK_NEXT_STATE, and no event. The same refusals. */
+ * pressed, and KEYDOCK_NEXT_STATE, and no event. In sets 1 and 2 PAUSE is struck and not pressed, so it is
+ * not found, and neither is an overrun. The same refusals. */
 int32_t keydock_read_press(uint32_t set, uint32_t state, uint8_t byte);
 
-/* What an answer of these two holds, if it is no refusal. */
+/* What an answer of these two holds that is 0 or more, the event in those of keydock_read_byte alone. Of a
+ * refusal they make nonsense. */
 #define KEYDOCK_FOUND_EVENT(answer) ((unsigned)(answer) & 255u)
 #define KEYDOCK_FOUND_KEY(answer) ((unsigned)(answer) >> 8 & 255u)
 #define KEYDOCK_NEXT_STATE(answer) ((unsigned)(answer) >> 16)

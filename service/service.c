@@ -87,7 +87,7 @@ static int show_key(int count, char **words)
     uint32_t set = number(words[0], 10);
     uint32_t key = number(words[1], 10);
     uint32_t event = place(words[2], events, 3);
-    uint32_t held = 0, num_lock = 0, type = KEYDOCK_TYPEMATIC;
+    uint32_t held = 0, num_lock = 0, type = KEYDOCK_TYPE_TYPEMATIC;
     if (event == 3)
         return usage();
     for (int i = 3; i < count; i++) {
