@@ -1,16 +1,16 @@
 -- The calls from C, on a record that is lent as bytes (docs/RULES.md, section 14; include/keydock.h). Assumes nothing.
-use Prim.Native.Nat.{ℕ, _+_}
+use Prim.Native.Nat.{ℕ, _+_, _*_}
 use mathlib.Core.List.{List}
 use lib.Dec.{eqb}
 use lib.IntN.{ℤ, pos}
-use lib.ListN.{length}
+use lib.ListN.{length, getD}
 use Rattle.basics.specs.Choice.{pick}
+use Rattle.basics.specs.Said.{Said, minus}
 use Rattle.record.specs.declared.Dock.{Dock}
 use Rattle.record.specs.Power.{powerOn}
 use Rattle.dock.specs.declared.Answer.{Answer}
 use Rattle.dock.specs.declared.Answered.{Answered}
 use Rattle.dock.specs.declared.Given.{Given}
-use Rattle.dock.specs.declared.Given.the-variants.{Nothing, Reply, KeyByte, Refused}
 use Rattle.dock.specs.declared.Taken.{Taken}
 use Rattle.dock.specs.Answers.{answerSays, givenSays}
 use Rattle.dock.specs.Calls.{Call, Scan, Swap, Frame, Read}
@@ -19,18 +19,18 @@ use Rattle.dock.specs.Swap.{swapOf}
 use Rattle.dock.specs.Frame.{frameOf}
 use Rattle.dock.specs.Read.{readOf}
 use Rattle.layout.specs.Layout.{size, flagOf, recordIn, isRecord, bytesOf}
-use Rattle.basics.specs.Said.{minus}
 
--- An answer as a number.
+-- What is said as one number: minus that of a refusal, else the values, a kind of byte and the byte, 0 where there is none.
+abbrev pub saidNumber : Said → ℤ
+saidNumber said =
+    pick (eqb (said .number) 0) (pos (256 * getD (said .values) 0 0 + getD (said .values) 1 0)) (minus (said .number))
+
+-- An answer, and what a read gave.
 abbrev pub answerNumber : Answer → ℤ
-answerNumber answer = minus (answerSays answer .number)
+answerNumber answer = saidNumber (answerSays answer)
 
--- What a read gave as a number: which kind of byte, and the byte.
 abbrev pub givenNumber : Given → ℤ
-givenNumber Nothing = pos 0
-givenNumber (Reply byte) = pos (256 + byte)
-givenNumber (KeyByte byte) = pos (512 + byte)
-givenNumber Refused = minus (givenSays Refused .number)
+givenNumber given = saidNumber (givenSays given)
 
 -- What a call does: the number that it gives, and the record after it.
 pub record Done : Type 0 where
