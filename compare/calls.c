@@ -1,13 +1,14 @@
 /* Makes one call of the C interface again and again, so that its instructions can be counted:
  *
- *     calls proved|independent NAME COUNT <LINES
+ *     calls proved|independent|own NAME COUNT <LINES
  *
  * Each is called through a pointer, and `nothing` is called in the same way: what that takes is to
  * be taken off.
  *
  * A call on a record finds it each time as all lines but the last have left it, and passes what the
  * last line says: `line` is the call that this line is. Here `untouched` is what is to be taken off,
- * with the same lines.
+ * with the same lines. `own` is the independent dock on its own record, which it looks over too, but has
+ * not to take out of bytes and put back.
  */
 #include <stdbool.h>
 #include <stdio.h>
@@ -15,6 +16,7 @@
 #include <string.h>
 
 #include "../independent/codes.h"
+#include "../independent/dock.h"
 #include "../independent/frames.h"
 #include "../independent/reader.h"
 #include "asking.h"
@@ -96,6 +98,26 @@ static int32_t leave_untouched(void *lent, size_t size, const struct call *asked
     return 0;
 }
 
+static struct dock own, own_prepared;
+
+static int32_t ask_own(void *dock, size_t size, const struct call *asked)
+{
+    (void)size;
+    switch (asked->kind) {
+    case SCAN:
+        return dock_scan(dock, asked->bytes, asked->length);
+    case SWAP:
+        return dock_swap(dock, asked->bytes, asked->length);
+    case FRAME:
+        return dock_host_frame(dock, asked->frame);
+    case READ:
+        return dock_read(dock);
+    default:
+        dock_power_on(dock);
+        return 0;
+    }
+}
+
 /* A line's call is made when the next line comes, so that of the last is left. */
 static void prepare_record(void)
 {
@@ -105,6 +127,7 @@ static void prepare_record(void)
 
     while ((length = getline(&line, &room, stdin)) > 0) {
         asking[call.kind].proved(prepared, sizeof prepared, &call);
+        ask_own(&own_prepared, sizeof own_prepared, &call);
         call = call_of_line(line, (size_t)length - 1, passed);
     }
     free(line);
@@ -116,6 +139,16 @@ static unsigned repeat_on_record(ask *asked, long count)
     while (count-- > 0) {
         memcpy(record, prepared, sizeof record);
         sum += (unsigned)asked(record, sizeof record, &call);
+    }
+    return sum;
+}
+
+static unsigned repeat_on_own(ask *asked, long count)
+{
+    unsigned sum = 0;
+    while (count-- > 0) {
+        own = own_prepared;
+        sum += (unsigned)asked(&own, sizeof own, &call);
     }
     return sum;
 }
@@ -143,12 +176,16 @@ int main(int count, char **words)
                 return 0;
             }
         prepare_record();
+        if (strcmp(words[1], "own") == 0) {
+            printf("%u\n", repeat_on_own(strcmp(words[2], "line") == 0 ? ask_own : leave_untouched, times));
+            return 0;
+        }
         ask *asked = call_on_record(of_proved, words[2]);
         if (asked != NULL) {
             printf("%u\n", repeat_on_record(asked, times));
             return 0;
         }
     }
-    fputs("usage: calls proved|independent NAME COUNT <LINES\n", stderr);
+    fputs("usage: calls proved|independent|own NAME COUNT <LINES\n", stderr);
     return 2;
 }
