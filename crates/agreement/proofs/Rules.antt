@@ -7,13 +7,13 @@ use Prim.Native.Nat.{ℕ, zero, suc, _+_, _*_, _/_, _%_, _^_, _≤_, _<_}
 use native.Mathlib.Decide.{ℕ-discrete}
 use native.Mathlib.Nat.{zero-add}
 use native.Mathlib.Omega.{arith}
-use borrow.Author.Tests.{eqb-true, eq-eqb, ne-eqb, leb-true, leb-false, le-leb}
+use borrow.Author.Tests.{eq-eqb, ne-eqb, leb-true, leb-false, le-leb}
 use lib.Bits.{bitAnd, and-shr, and-mod, and-lt}
 use lib.Count.{ones, onesIn}
-use lib.Dec.{T, eqb, leb}
+use lib.Dec.{eqb, leb}
 use Rattle.basics.specs.Choice.{pick, both, either, between}
 use Rattle.basics.proofs.Cases.{two-by-cases}
-use Rattle.basics.proofs.Tables.{allBelow, passed, below}
+use Rattle.basics.proofs.Tables.{valuesBelow, alike-below}
 use Rattle.host.specs.Values.{rightValue}
 use Rattle.keys.specs.declared.Row.{Row}
 use Rattle.keys.specs.Keys.{rows}
@@ -48,16 +48,12 @@ common-rows zero x y = refl
 common-rows (suc row) x y = ap₂ (λ (a b : ℕ). a + b) (common-rows row x y) (sym (row-and x y row))
 
 -- Eight rows are all that a byte has: computed over the 256 of them.
-all-rows : T (allBelow (λ (n : ℕ). eqb (closedRows 8 n) (ones n)) 256)
+all-rows : valuesBelow (closedRows 8) 256 ≡ valuesBelow ones 256
 unfolding closedRows ones onesIn
-all-rows = tt
+all-rows = refl
 
 common-ones : (x y : ℕ) → x < 256 → y < 256 → inCommon 8 x y ≡ ones (bitAnd x y)
-common-ones x y h l =
-    common-rows 8 x y
-    ∙ eqb-true (closedRows 8 (bitAnd x y)) (ones (bitAnd x y))
-    (passed (eqb (closedRows 8 (bitAnd x y)) (ones (bitAnd x y)))
-    (below (λ (n : ℕ). eqb (closedRows 8 n) (ones n)) 256 all-rows (bitAnd x y) (and-lt 8 x y h l)))
+common-ones x y h l = common-rows 8 x y ∙ alike-below (closedRows 8) ones 256 all-rows (bitAnd x y) (and-lt 8 x y h l)
 
 shares-same : (x : ℕ) (scan : List ℕ) → x < 256 → sharesTwo x (asBytes scan) ≡ sharesAny x (asBytes scan)
 unfolding sharesTwo sharesAny

@@ -27,6 +27,20 @@ at-each-place f g d (x ∷ xs) i e zero h = rw add-zero (ap (headOr (f i x)) e)
 at-each-place f g d (x ∷ xs) i e (suc k) h =
     rw (add-suc, ← suc-add) (at-each-place f g d xs (suc i) (ap tailOf e) k (le-of-suc-le-suc h))
 
+-- What a function gives for each number below n.
+abbrev pub valuesBelow : {A : Type 0} → (ℕ → A) → ℕ → List A
+valuesBelow f zero = []
+valuesBelow f (suc n) = f n ∷ valuesBelow f n
+
+-- Two functions with the same values below n agree at each number below n.
+pub alike-below : {A : Type 0} (f g : ℕ → A) (n : ℕ) → valuesBelow f n ≡ valuesBelow g n → (k : ℕ) → k < n → f k ≡ g k
+alike-below f g zero e k h = absurd (not-suc-le-zero h)
+alike-below f g (suc n) e k h = go (ℕ-discrete k n) (alike-below f g n (ap tailOf e) k)
+  where
+    go : Dec (k ≡ n) → (k < n → f k ≡ g k) → f k ≡ g k
+    go (yes q) later = rw q (ap (headOr (f n)) e)
+    go (no q) later = later (omega arith)
+
 -- A test passes at each number below n.
 abbrev pub allBelow : (ℕ → Bool) → ℕ → Bool
 allBelow f zero = true

@@ -13,11 +13,15 @@ pub enum Unpacked {
     TooLarge,
 }
 
-// The bit that makes the number of ones of the byte and itself odd.
+// The bit that makes the number of ones of the byte and itself odd. Ones are not counted: the byte is folded onto itself, and each time
+// two ones that meet cancel out, until one bit is left.
 fn parity_of(byte: u8) -> u16
     ensures { λ r. ⌜ r ≡ parity byte ⌝ }
 {
-    ((u8::count_ones(byte) + 1) % 2) as u16
+    let half = byte ^ (byte >> 4);
+    let quarter = half ^ (half >> 2);
+    let eighth = quarter ^ (quarter >> 1);
+    ((eighth & 1) as u16) ^ 1
 }
 
 // The frame of a byte.

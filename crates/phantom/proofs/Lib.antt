@@ -1,3 +1,4 @@
+pub mod Lowest
 pub mod Rectangles
 pub mod Distances
 pub mod Pairs

@@ -11,11 +11,12 @@ ghost use Prim.Native.Nat.{ℕ, _≤_};
 ghost use lib.ListN.{getD, length};
 ghost use Rattle.phantom.specs.Phantom.{twoClosed, isPhantom, anyTwoClosed, sharesAt};
 
-// Two or more rows are closed.
+// Two or more rows are closed: one is still there when the lowest is taken away. Of no rows none is left, whatever the number before 0.
 fn two_closed(rows: u8) -> bool
     ensures { λ r. ⌜ r ≡ twoClosed rows ⌝ }
 {
-    2 <= u8::count_ones(rows)
+    let before = std::num::wrapping_sub_u8(rows, 1);
+    rows & before != 0
 }
 
 // Some column has two or more closed rows.
