@@ -1,4 +1,4 @@
 pub mod Folding
 pub mod Packing
-pub mod Unpacking
 pub mod RoundTrip
+pub mod Unpacking

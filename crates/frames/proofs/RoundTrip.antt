@@ -33,7 +33,7 @@ module _ (b : ℕ) (h : b < 256) where
   unfolding packedOf
   stop-bit = omega (arith, parity-small b)
 
-  packed-is-whole : whole (packedOf b) ≡ true
+  pub packed-is-whole : whole (packedOf b) ≡ true
   unfolding whole
   packed-is-whole = simp (byte-bits, eq-eqb _ _ start-bit, eq-eqb _ _ parity-bit, eq-eqb _ _ stop-bit)
 

@@ -31,7 +31,7 @@ pub fn pack(byte: u8) -> u16
     ((byte as u16) << 1) | (parity_of(byte) << 9) | (1 << 10)
 }
 
-// The byte of a frame, if the number is a frame and the frame is whole.
+// The byte of a frame, if the number is a frame and the frame is whole: then it is the frame of its byte.
 pub fn unpack(frame: u32) -> Unpacked
     ensures { λ r. ⌜ Answers unpackedSays r (unpackedOf frame) (unpackedSaid frame) ⌝ }
 {
@@ -39,13 +39,7 @@ pub fn unpack(frame: u32) -> Unpacked
         return Unpacked::TooLarge;
     }
     let byte = ((frame >> 1) & 255) as u8;
-    if frame & 1 != 0 {
-        return Unpacked::Broken;
-    }
-    if (frame >> 9) & 1 != parity_of(byte) as u32 {
-        return Unpacked::Broken;
-    }
-    if (frame >> 10) & 1 != 1 {
+    if pack(byte) as u32 != frame {
         return Unpacked::Broken;
     }
     Unpacked::Byte(byte)

@@ -23,7 +23,6 @@ use crate::fill;
 use contacts::Columns;
 use contacts::Counts;
 use queue::Queue;
-use record::Dock;
 use record::Held;
 use record::Map;
 use record::Mode;
@@ -33,10 +32,10 @@ use record::Types;
 use replies::Replies;
 ghost use mathlib.Core.Path.{_≡_};
 ghost use lib.ListN.{length};
-ghost use Rattle.layout.specs.Layout.{size, mapIn, typesIn, closedIn, countsIn, heldIn, restIn, recordIn, isRecord};
+ghost use Rattle.layout.specs.Layout.{size, mapIn, typesIn, closedIn, countsIn, heldIn, restIn, isRecord};
 
 // The arrays, one after the other.
-fn map_in(lent: &[u8]) -> Map
+pub fn map_in(lent: &[u8]) -> Map
     requires { ⌜ length (now lent) ≡ size ⌝ }
     ensures { λ r. ⌜ r ≡ mapIn (now (lent .entry)) ⌝ }
 {
@@ -45,7 +44,7 @@ fn map_in(lent: &[u8]) -> Map
     map
 }
 
-fn types_in(lent: &[u8]) -> Types
+pub fn types_in(lent: &[u8]) -> Types
     requires { ⌜ length (now lent) ≡ size ⌝ }
     ensures { λ r. ⌜ r ≡ typesIn (now (lent .entry)) ⌝ }
 {
@@ -54,7 +53,7 @@ fn types_in(lent: &[u8]) -> Types
     types
 }
 
-fn closed_in(lent: &[u8]) -> Columns
+pub fn closed_in(lent: &[u8]) -> Columns
     requires { ⌜ length (now lent) ≡ size ⌝ }
     ensures { λ r. ⌜ r ≡ closedIn (now (lent .entry)) ⌝ }
 {
@@ -63,7 +62,7 @@ fn closed_in(lent: &[u8]) -> Columns
     closed
 }
 
-fn counts_in(lent: &[u8]) -> Counts
+pub fn counts_in(lent: &[u8]) -> Counts
     requires { ⌜ length (now lent) ≡ size ⌝ }
     ensures { λ r. ⌜ r ≡ countsIn (now (lent .entry)) ⌝ }
 {
@@ -72,7 +71,7 @@ fn counts_in(lent: &[u8]) -> Counts
     counts
 }
 
-fn held_in(lent: &[u8]) -> Held
+pub fn held_in(lent: &[u8]) -> Held
     requires { ⌜ length (now lent) ≡ size ⌝ }
     ensures { λ r. ⌜ r ≡ heldIn (now (lent .entry)) ⌝ }
 {
@@ -110,27 +109,6 @@ pub fn rest_in(lent: &[u8]) -> Rest
         waiting: lent[WAITING],
         handover: lent[HANDOVER] == 1,
         given: lent[GIVEN],
-    }
-}
-
-// The record that these bytes are.
-pub fn record_in(lent: &[u8]) -> Dock
-    requires { ⌜ length (now lent) ≡ size ⌝ }
-    ensures { λ r. ⌜ r ≡ recordIn (now (lent .entry)) ⌝ }
-{
-    let map = map_in(lent);
-    let closed = closed_in(lent);
-    let counts = counts_in(lent);
-    let held = held_in(lent);
-    let types = types_in(lent);
-    let rest = rest_in(lent);
-    Dock {
-        map,
-        closed,
-        counts,
-        held,
-        types,
-        rest,
     }
 }
 

@@ -39,6 +39,9 @@ found-none l true e f = never false f refl
 pub copy-in-range : (l : List ℕ) → isRecord l ≡ true → (d : Dock) → d ≡ recordIn l → inRange d ≡ true
 copy-in-range l h d b = ap inRange b ∙ record-in-range l h
 
+pub copy-sized : (l : List ℕ) → isRecord l ≡ true → (d : Dock) → d ≡ recordIn l → IsSized d
+copy-sized l h d b = rw b (record-sized l h)
+
 -- Every call leaves a record in its range, and its arrays with their sizes.
 done-in-range : (call : Call) (d : Dock) → inRange d ≡ true → inRange (done call d .dock) ≡ true
 done-in-range (Scan scan) d h = scan-in-range d scan h

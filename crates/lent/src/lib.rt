@@ -2,9 +2,13 @@
 // a record a copy is made, the call is made in place on its parts, and those that it can change are put back.
 use dock::Answer;
 use dock::Given;
+use layout::reading::closed_in;
+use layout::reading::counts_in;
+use layout::reading::held_in;
 use layout::reading::is_record;
-use layout::reading::record_in;
+use layout::reading::map_in;
 use layout::reading::rest_in;
+use layout::reading::types_in;
 use layout::writing::put_contacts;
 use layout::writing::put_held;
 use layout::writing::put_record;
@@ -62,13 +66,12 @@ pub extern "C" fn keydock_scan(lent: &mut [u8], scan: &[u8]) -> i32
     if !is_record(lent) {
         return -9;
     }
-    let dock = record_in(lent);
-    let map = dock.map;
-    let mut closed = dock.closed;
-    let mut counts = dock.counts;
-    let mut held = dock.held;
-    let types = dock.types;
-    let rest = dock.rest;
+    let map = map_in(lent);
+    let mut closed = closed_in(lent);
+    let mut counts = counts_in(lent);
+    let mut held = held_in(lent);
+    let types = types_in(lent);
+    let rest = rest_in(lent);
     let answered = scan_in_place(
         &map,
         &mut closed,
@@ -93,13 +96,12 @@ pub extern "C" fn keydock_swap(lent: &mut [u8], new: &[u8]) -> i32
     if !is_record(lent) {
         return -9;
     }
-    let dock = record_in(lent);
-    let mut map = dock.map;
-    let mut closed = dock.closed;
-    let mut counts = dock.counts;
-    let mut held = dock.held;
-    let types = dock.types;
-    let rest = dock.rest;
+    let mut map = map_in(lent);
+    let mut closed = closed_in(lent);
+    let mut counts = counts_in(lent);
+    let mut held = held_in(lent);
+    let types = types_in(lent);
+    let rest = rest_in(lent);
     let answered = swap_in_place(
         &mut map,
         &mut closed,
@@ -124,12 +126,11 @@ pub extern "C" fn keydock_frame(lent: &mut [u8], number: u32) -> i32
     if !is_record(lent) {
         return -9;
     }
-    let dock = record_in(lent);
-    let mut closed = dock.closed;
-    let mut counts = dock.counts;
-    let mut held = dock.held;
-    let mut types = dock.types;
-    let rest = dock.rest;
+    let mut closed = closed_in(lent);
+    let mut counts = counts_in(lent);
+    let mut held = held_in(lent);
+    let mut types = types_in(lent);
+    let rest = rest_in(lent);
     let answered = frame_in_place(
         &mut closed,
         &mut counts,
@@ -153,10 +154,9 @@ pub extern "C" fn keydock_read(lent: &mut [u8]) -> i32
     if !is_record(lent) {
         return -9;
     }
-    let dock = record_in(lent);
-    let mut held = dock.held;
-    let types = dock.types;
-    let rest = dock.rest;
+    let mut held = held_in(lent);
+    let types = types_in(lent);
+    let rest = rest_in(lent);
     let taken = read_in_place(&mut held, &types, rest);
     let after = taken.rest;
     put_held(lent, held, after);

@@ -1,5 +1,6 @@
--- `keydock_read` meets its contract: the byte is given from a copy, and the held keys and the rest are put back. Assumes nothing.
+-- `keydock_read` meets its contract: the byte is given from copies, and the held keys and the rest are put back. Assumes nothing.
 use mathlib.Core.Path.{_≡_, sym, ap, _∙_}
+use mathlib.Core.Bool.{true}
 use mathlib.Core.List.{List}
 use Prim.Native.Nat.{ℕ}
 use native.Mathlib.Omega.{arith}
@@ -7,10 +8,13 @@ use borrow.Author.Needs.{needs}
 use mir.Syntax.{w32}
 use mir.ValLaws.{toZ-pos}
 use Rattle.range.proofs.Ranges.{in-range-rest}
+use Rattle.record.specs.declared.Dock.{Dock}
+use Rattle.record.specs.Parts.{dockWith}
 use Rattle.dock.specs.declared.Given.{Given}
 use Rattle.dock.specs.Calls.{Read}
 use Rattle.dock.proofs.Reading.{read-done}
-use Rattle.layout.proofs.Records.{record-size}
+use Rattle.layout.specs.Layout.{mapIn, closedIn, countsIn, recordIn, isRecord}
+use Rattle.layout.proofs.Records.{record-size, copied}
 use Rattle.layout.proofs.Fronts.{held-put}
 use Rattle.lent.specs.Lent.{givenNumber, takenDone, numberFor, bytesAfter}
 use Rattle.lent.proofs.Lending.{found-record, found-none, copy-in-range, refused-lent, short-after, number-after, bytes-after}
@@ -20,34 +24,58 @@ use Rattle.lent.proofs.keydock_read.Tie as tie
 returns : tie.Need-returns
 returns c = refused-lent Read _ (found-none _ _ (c .before .is-record .ensures) (c .if1 .taken))
 
+-- Once the held keys, the types and the rest are copied: the bytes are a record, and the copies make it, with the other parts in the bytes.
+module _ (c : tie.After-rest-in) where
+  abbrev types-copied : tie.After-types-in
+  types-copied = c .before .before
+
+  abbrev held-copied : tie.After-held-in
+  held-copied = types-copied .before .before
+
+  abbrev looked : tie.After-is-record
+  looked = held-copied .before .before .before
+
+  abbrev bytes : List ℕ
+  bytes = looked .before .before .before .args .lent .now
+
+  good : isRecord bytes ≡ true
+  good = search found-record
+
+  abbrev copy : Dock
+  copy =
+      dockWith (mapIn bytes) (closedIn bytes) (countsIn bytes) (held-copied .held-in .result) (types-copied .types-in .result) (c .rest-in .result)
+
+  same : copy ≡ recordIn bytes
+  same = search copied
+
 read-in-place-requires : tie.Need-read-in-place-requires
 read-in-place-requires c κs =
-    let copied = c .before .before .before .before .before in
-    let good = found-record _ _ (copied .before .before .before .is-record .ensures) (copied .before .before .if1 .left) in
-    in-range-rest _ (copy-in-range _ good _ (copied .record-in .ensures))
+    let copies = c .before .before in
+    in-range-rest _ (copy-in-range _ (good copies) _ (same copies))
 
 put-held-requires : tie.Need-put-held-requires
 put-held-requires c κs =
     let called = c .before .before in
-    let copied = called .before .before .before .before .before .before in
-    let good = found-record _ _ (copied .before .before .before .is-record .ensures) (copied .before .before .if1 .left) in
-    let made = ap takenDone (called .read-in-place .ensures _ _ _ ∙ read-done _ (copy-in-range _ good _ (copied .record-in .ensures))) in
-    record { size = record-size _ good; short = short-after Read _ good _ (copied .record-in .ensures) _ made }
+    let copies = called .before .before .before in
+    let made = ap takenDone (called .read-in-place .ensures _ _ _ ∙ read-done _ (copy-in-range _ (good copies) _ (same copies))) in
+    record { size = record-size _ (good copies); short = short-after Read _ (good copies) _ (same copies) _ made }
 
 -- Once the record is put back, whatever was given.
-abbrev lent-bytes : tie.After-slice-known2 → List ℕ
-lent-bytes c = c .before .before .before .before .before .before .before .before .before .before .before .before .before .before .before .before .before .args .lent .now
-
 module _ (c : tie.After-slice-known2) (given : Given) (e : c .before .before .before .before .before .read-in-place .result .given ≡ given) where
-  answered : (givenNumber given ≡ numberFor Read (lent-bytes c)) × (c .before .before .put-held .last .0 ≡ bytesAfter Read (lent-bytes c))
+  abbrev put : tie.After-put-held
+  put = c .before .before
+
+  abbrev called : tie.After-read-in-place
+  called = put .before .before .before
+
+  abbrev copies : tie.After-rest-in
+  copies = called .before .before .before
+
+  answered : (givenNumber given ≡ numberFor Read (bytes copies)) × (put .put-held .last .0 ≡ bytesAfter Read (bytes copies))
   answered =
-      let put = c .before .before in
-      let called = put .before .before .before in
-      let copied = called .before .before .before .before .before .before in
-      let good = found-record _ _ (copied .before .before .before .is-record .ensures) (copied .before .before .if1 .left) in
-      let made = ap takenDone (called .read-in-place .ensures _ _ _ ∙ read-done _ (copy-in-range _ good _ (copied .record-in .ensures))) in (
-        ap givenNumber (sym e) ∙ number-after Read _ good _ (copied .record-in .ensures) _ made,
-        bytes-after Read _ good _ (copied .record-in .ensures) _ made _ (put .put-held .ensures ∙ held-put _ _ (copied .record-in .ensures) _ _),
+      let made = ap takenDone (called .read-in-place .ensures _ _ _ ∙ read-done _ (copy-in-range _ (good copies) _ (same copies))) in (
+        ap givenNumber (sym e) ∙ number-after Read _ (good copies) _ (same copies) _ made,
+        bytes-after Read _ (good copies) _ (same copies) _ made _ (put .put-held .ensures ∙ held-put _ _ (same copies) _ _),
       )
 
 returns-2 : tie.Need-returns-2
@@ -73,7 +101,9 @@ keydock-read-spec =
     (λ c κs. search needs)  -- is-record-requires
     (λ c. search needs)  -- same-length
     returns
-    (λ c κs. search (needs, record-size, found-record))  -- record-in-requires
+    (λ c κs. search (needs, record-size, found-record))  -- held-in-requires
+    (λ c κs. search (needs, record-size, found-record))  -- types-in-requires
+    (λ c κs. search (needs, record-size, found-record))  -- rest-in-requires
     read-in-place-requires
     put-held-requires
     (λ c. search needs)  -- enum-told
