@@ -1,5 +1,5 @@
 // The dock's calls on a record that is lent as bytes (docs/RULES.md, section 14). Bytes that are no record are refused before all else; of
-// a record a copy is made, the call is made in place on its parts, and those that it can change are put back.
+// a record the parts that a call looks at are copied, the call is made in place on the copies, and those that it can change are put back.
 use dock::Answer;
 use dock::Given;
 use layout::reading::closed_in;
