@@ -1,105 +1,170 @@
 // Which key has a code (docs/RULES.md, section 1): the key table read backwards, so that nobody has to search it.
 ghost use mathlib.Core.Path.{_≡_};
 ghost use Prim.Native.Nat.{_+_};
-ghost use Rattle.lookup.specs.Lookup.{keyWith};
+ghost use Rattle.lookup.specs.Lookup.{keyWith, rowOf, entryOf};
 
-// The key at each code byte, 0 for none: the row is the byte's first hexadecimal digit, the column its second.
-// The proof computes each table from the key table, so a wrong entry is refused.
+// The key of each code byte, 0 for none, eight bytes to a row: row r has those of the bytes 8r to 8r + 7, two digits each, the first at
+// the right end. A row is chosen by a match, of which the compiler makes a table that lies ready; an array of constants it lays out anew
+// at each use. The proof computes every row from the key table, so a wrong entry is refused.
 
-// Bytes sent alone in set 1.
-const SET1: [u8; 96] = *b"\x00\x56\x02\x03\x04\x05\x06\x07\x08\x09\x0a\x0b\x0c\x0d\x0e\x0f\
-    \x10\x11\x12\x13\x14\x15\x16\x17\x18\x19\x1a\x1b\x29\x36\x1e\x1f\
-    \x20\x21\x22\x23\x24\x25\x26\x27\x28\x01\x2a\x1c\x2b\x2c\x2d\x2e\
-    \x2f\x30\x31\x32\x33\x34\x35\x47\x37\x38\x1d\x57\x58\x59\x5a\x5b\
-    \x5c\x5d\x5e\x5f\x60\x45\x64\x53\x54\x55\x48\x50\x51\x52\x49\x4d\
-    \x4e\x4f\x4c\x4b\x00\x00\x00\x61\x62\x00\x00\x00\x00\x00\x00\x00";
+// The entry of a byte in its row.
+fn in_row(row: u64, byte: u8) -> u8
+    ensures { λ r. ⌜ r ≡ entryOf row byte ⌝ }
+{
+    ((row >> (8 * (byte as u32 % 8))) % 256) as u8
+}
 
-// Bytes sent behind E0 in set 1.
-const SET1_E0: [u8; 96] = *b"\x00\x00\x00\x00\x00\x00\x00\x00\x00\x00\x00\x00\x00\x00\x00\x00\
-    \x00\x00\x00\x00\x00\x00\x00\x00\x00\x00\x00\x00\x4a\x3a\x00\x00\
-    \x00\x00\x00\x00\x00\x00\x00\x00\x00\x00\x00\x00\x00\x00\x00\x00\
-    \x00\x00\x00\x00\x00\x46\x00\x63\x39\x00\x00\x00\x00\x00\x00\x00\
-    \x00\x00\x00\x00\x00\x00\x65\x3d\x41\x3f\x00\x42\x00\x44\x00\x3e\
-    \x43\x40\x3b\x3c\x00\x00\x00\x00\x00\x00\x00\x66\x67\x68\x00\x00";
-
-// Bytes sent alone in set 2.
-const SET2: [u8; 144] = *b"\x00\x5f\x00\x5b\x59\x57\x58\x62\x00\x60\x5e\x5c\x5a\x0f\x01\x00\
-    \x00\x37\x2a\x00\x36\x10\x02\x00\x00\x00\x2b\x1f\x1e\x11\x03\x00\
-    \x00\x2d\x2c\x20\x12\x05\x04\x00\x00\x38\x2e\x21\x14\x13\x06\x00\
-    \x00\x30\x2f\x23\x22\x15\x07\x00\x00\x00\x31\x24\x16\x08\x09\x00\
-    \x00\x32\x25\x17\x18\x0b\x0a\x00\x00\x33\x34\x26\x27\x19\x0c\x00\
-    \x00\x00\x28\x00\x1a\x0d\x00\x00\x1d\x35\x29\x1b\x00\x1c\x00\x00\
-    \x00\x00\x00\x00\x00\x00\x0e\x00\x00\x4d\x00\x50\x53\x00\x00\x00\
-    \x4c\x4b\x4e\x51\x52\x54\x56\x45\x61\x49\x4f\x48\x47\x55\x64\x00\
-    \x00\x00\x00\x5d\x00\x00\x00\x00\x00\x00\x00\x00\x00\x00\x00\x00";
-
-// Bytes sent behind E0 in set 2.
-const SET2_E0: [u8; 128] = *b"\x00\x00\x00\x00\x00\x00\x00\x00\x00\x00\x00\x00\x00\x00\x00\x00\
-    \x00\x39\x00\x00\x3a\x00\x00\x00\x00\x00\x00\x00\x00\x00\x00\x66\
-    \x00\x00\x00\x00\x00\x00\x00\x67\x00\x00\x00\x00\x00\x00\x00\x68\
-    \x00\x00\x00\x00\x00\x00\x00\x00\x00\x00\x00\x00\x00\x00\x00\x00\
-    \x00\x00\x00\x00\x00\x00\x00\x00\x00\x00\x46\x00\x00\x00\x00\x00\
-    \x00\x00\x00\x00\x00\x00\x00\x00\x00\x00\x4a\x00\x00\x00\x00\x00\
-    \x00\x00\x00\x00\x00\x00\x00\x00\x00\x3e\x00\x42\x3d\x00\x00\x00\
-    \x3b\x3c\x43\x00\x44\x41\x00\x00\x00\x00\x40\x00\x63\x3f\x65\x00";
-
-// Bytes sent in set 3.
-const SET3: [u8; 144] = *b"\x00\x00\x00\x00\x00\x00\x00\x57\x56\x00\x00\x00\x00\x0f\x01\x58\
-    \x00\x36\x2a\x00\x1d\x10\x02\x59\x00\x37\x2b\x1f\x1e\x11\x03\x5a\
-    \x00\x2d\x2c\x20\x12\x05\x04\x5b\x00\x38\x2e\x21\x14\x13\x06\x5c\
-    \x00\x30\x2f\x23\x22\x15\x07\x5d\x00\x39\x31\x24\x16\x08\x09\x5e\
-    \x00\x32\x25\x17\x18\x0b\x0a\x5f\x00\x33\x34\x26\x27\x19\x0c\x60\
-    \x00\x00\x28\x00\x1a\x0d\x61\x63\x3a\x35\x29\x1b\x1c\x00\x62\x64\
-    \x43\x42\x65\x41\x3c\x3e\x0e\x3b\x00\x4d\x44\x50\x53\x40\x3d\x3f\
-    \x4c\x4b\x4e\x51\x52\x54\x45\x46\x00\x4a\x4f\x00\x49\x55\x47\x00\
-    \x00\x00\x00\x00\x48\x00\x00\x00\x00\x00\x00\x66\x67\x68\x00\x00";
+// The row of a byte sent alone in set 1.
+fn row_in_set1(byte: u8) -> u64
+    ensures { λ r. ⌜ r ≡ rowOf 1 0 byte ⌝ }
+{
+    match byte / 8 {
+        0 => 0x0706050403025600,
+        1 => 0x0f0e0d0c0b0a0908,
+        2 => 0x1716151413121110,
+        3 => 0x1f1e36291b1a1918,
+        4 => 0x2726252423222120,
+        5 => 0x2e2d2c2b1c2a0128,
+        6 => 0x473534333231302f,
+        7 => 0x5b5a5958571d3837,
+        8 => 0x536445605f5e5d5c,
+        9 => 0x4d49525150485554,
+        10 => 0x610000004b4c4f4e,
+        11 => 0x0000000000000062,
+        _ => 0,
+    }
+}
 
 // The key whose code is a byte sent alone in set 1.
 pub fn in_set1(byte: u8) -> u8
     ensures { λ r. ⌜ r ≡ keyWith 1 byte ⌝ }
 {
-    if 96 <= byte {
-        return 0;
+    in_row(row_in_set1(byte), byte)
+}
+
+// The row of a byte sent behind E0 in set 1.
+fn row_behind_e0_in_set1(byte: u8) -> u64
+    ensures { λ r. ⌜ r ≡ rowOf 1 0xe000 byte ⌝ }
+{
+    match byte / 8 {
+        0 => 0x0000000000000000,
+        1 => 0x0000000000000000,
+        2 => 0x0000000000000000,
+        3 => 0x00003a4a00000000,
+        4 => 0x0000000000000000,
+        5 => 0x0000000000000000,
+        6 => 0x6300460000000000,
+        7 => 0x0000000000000039,
+        8 => 0x3d65000000000000,
+        9 => 0x3e00440042003f41,
+        10 => 0x000000003c3b4043,
+        11 => 0x0000686766000000,
+        _ => 0,
     }
-    SET1[byte as usize]
 }
 
 // The key whose code is a byte sent behind E0 in set 1.
 pub fn behind_e0_in_set1(byte: u8) -> u8
     ensures { λ r. ⌜ r ≡ keyWith 1 (0xe000 + byte) ⌝ }
 {
-    if 96 <= byte {
-        return 0;
+    in_row(row_behind_e0_in_set1(byte), byte)
+}
+
+// The row of a byte sent alone in set 2.
+fn row_in_set2(byte: u8) -> u64
+    ensures { λ r. ⌜ r ≡ rowOf 2 0 byte ⌝ }
+{
+    match byte / 8 {
+        0 => 0x625857595b005f00,
+        1 => 0x00010f5a5c5e6000,
+        2 => 0x00021036002a3700,
+        3 => 0x0003111e1f2b0000,
+        4 => 0x00040512202c2d00,
+        5 => 0x00061314212e3800,
+        6 => 0x00071522232f3000,
+        7 => 0x0009081624310000,
+        8 => 0x000a0b1817253200,
+        9 => 0x000c192726343300,
+        10 => 0x00000d1a00280000,
+        11 => 0x00001c001b29351d,
+        12 => 0x000e000000000000,
+        13 => 0x0000005350004d00,
+        14 => 0x45565452514e4b4c,
+        15 => 0x00645547484f4961,
+        16 => 0x000000005d000000,
+        _ => 0,
     }
-    SET1_E0[byte as usize]
 }
 
 // The key whose code is a byte sent alone in set 2.
 pub fn in_set2(byte: u8) -> u8
     ensures { λ r. ⌜ r ≡ keyWith 2 byte ⌝ }
 {
-    if 144 <= byte {
-        return 0;
+    in_row(row_in_set2(byte), byte)
+}
+
+// The row of a byte sent behind E0 in set 2.
+fn row_behind_e0_in_set2(byte: u8) -> u64
+    ensures { λ r. ⌜ r ≡ rowOf 2 0xe000 byte ⌝ }
+{
+    match byte / 8 {
+        0 => 0x0000000000000000,
+        1 => 0x0000000000000000,
+        2 => 0x0000003a00003900,
+        3 => 0x6600000000000000,
+        4 => 0x6700000000000000,
+        5 => 0x6800000000000000,
+        6 => 0x0000000000000000,
+        7 => 0x0000000000000000,
+        8 => 0x0000000000000000,
+        9 => 0x0000000000460000,
+        10 => 0x0000000000000000,
+        11 => 0x00000000004a0000,
+        12 => 0x0000000000000000,
+        13 => 0x0000003d42003e00,
+        14 => 0x0000414400433c3b,
+        15 => 0x00653f6300400000,
+        _ => 0,
     }
-    SET2[byte as usize]
 }
 
 // The key whose code is a byte sent behind E0 in set 2.
 pub fn behind_e0_in_set2(byte: u8) -> u8
     ensures { λ r. ⌜ r ≡ keyWith 2 (0xe000 + byte) ⌝ }
 {
-    if 128 <= byte {
-        return 0;
+    in_row(row_behind_e0_in_set2(byte), byte)
+}
+
+// The row of a byte sent in set 3.
+fn row_in_set3(byte: u8) -> u64
+    ensures { λ r. ⌜ r ≡ rowOf 3 0 byte ⌝ }
+{
+    match byte / 8 {
+        0 => 0x5700000000000000,
+        1 => 0x58010f0000000056,
+        2 => 0x5902101d002a3600,
+        3 => 0x5a03111e1f2b3700,
+        4 => 0x5b040512202c2d00,
+        5 => 0x5c061314212e3800,
+        6 => 0x5d071522232f3000,
+        7 => 0x5e09081624313900,
+        8 => 0x5f0a0b1817253200,
+        9 => 0x600c192726343300,
+        10 => 0x63610d1a00280000,
+        11 => 0x6462001c1b29353a,
+        12 => 0x3b0e3e3c41654243,
+        13 => 0x3f3d405350444d00,
+        14 => 0x46455452514e4b4c,
+        15 => 0x00475549004f4a00,
+        16 => 0x0000004800000000,
+        17 => 0x0000686766000000,
+        _ => 0,
     }
-    SET2_E0[byte as usize]
 }
 
 // The key whose code is a byte sent in set 3.
 pub fn in_set3(byte: u8) -> u8
     ensures { λ r. ⌜ r ≡ keyWith 3 byte ⌝ }
 {
-    if 144 <= byte {
-        return 0;
-    }
-    SET3[byte as usize]
+    in_row(row_in_set3(byte), byte)
 }
