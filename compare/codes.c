@@ -1,8 +1,8 @@
 /* Compares the proved code, through its C interface, with the independent program:
  * every frame, every key in every set, event, type and choice of modifiers and Num Lock,
  * every reader state, byte and set, arguments out of range, and outputs of 0 to 12 bytes
- * with the untouched ones looked at. Prints a line for each comparison and fails if any
- * differs. */
+ * with the untouched ones looked at; and how many keys a terminal misreads that is wrong
+ * about the set. Prints a line for each comparison and fails if any differs. */
 #include <stdbool.h>
 #include <stdio.h>
 #include <string.h>
@@ -123,6 +123,26 @@ static bool compare_reader(void)
     return finish("reader");
 }
 
+/* What a terminal makes of set 3 that believes set 2: so many keys are another, or none. A press of set 3 is
+ * one byte, whatever the key's type. */
+static bool count_misread_keys(void)
+{
+    enum { MISREAD = 41 };
+    unsigned proved = 0, other = 0;
+    uint8_t bytes[KEYDOCK_CODES_MAX];
+
+    for (unsigned key = 1; key <= KEYDOCK_KEYS; key++) {
+        int pressed = READ_PRESS + 256 * (int)key;
+        expect(keydock_key_codes(3, key, PRESS, 0, 0, 0, bytes, sizeof bytes) == 1);
+        proved += keydock_read_byte(2, SEEN_NOTHING, bytes[0]) != pressed;
+        expect(encode(3, key, PRESS, 0, 0, 0, bytes, sizeof bytes) == 1);
+        other += read_key_byte(2, SEEN_NOTHING, bytes[0]) != pressed;
+    }
+    expect(proved == MISREAD);
+    expect(other == MISREAD);
+    return finish("keys of set 3 that set 2 misreads");
+}
+
 int main(void)
 {
     bool same = compare_frames();
@@ -130,5 +150,6 @@ int main(void)
     same = compare_outputs() && same;
     same = compare_choices() && same;
     same = compare_reader() && same;
+    same = count_misread_keys() && same;
     return same ? 0 : 1;
 }

@@ -3,9 +3,9 @@
  *
  * The sessions are lines for the bench, each session behind a line `power-on`, and each line is a call.
  * The rest is what no line can ask: rounds of random records; scans, maps and records of every length;
- * wrong maps, frames of up to 32 bits, and records with another byte in each place. What has to hold
- * of a call stands in both.h. Prints how many calls there were of each answer, or the first difference
- * and fails. */
+ * wrong maps, frames of up to 32 bits, and records with another byte in each place; and the question
+ * which set is in use, behind every byte. What has to hold of a call stands in both.h. Prints how many
+ * calls there were of each answer, or the first difference and fails. */
 #include <stdio.h>
 #include <stdlib.h>
 #include <string.h>
@@ -329,28 +329,79 @@ static void compare_wrong_maps(void)
 
 static void compare_frame(const union record *record, uint32_t frame)
 {
-    name_case(record->parts.waiting, frame);
     call_both(record, (struct call){.kind = FRAME, .frame = frame});
 }
 
-/* All of eleven bits, with each command waiting; then such with higher bits, and others. */
+/* All of eleven bits; then such with higher bits, and others. */
+static void compare_frames_on(const union record *record)
+{
+    for (uint32_t frame = 0; frame < 2048; frame++)
+        compare_frame(record, frame);
+    for (unsigned bit = 11; bit < 32; bit++)
+        for (unsigned byte = 0xED; byte <= 0xFF; byte++) {
+            uint32_t high = (uint32_t)1 << bit;
+            compare_frame(record, high | frame_of(byte));
+            compare_frame(record, high | (uint32_t)random_bits());
+        }
+}
+
+/* In each set, with each command waiting. A difference names its frame by itself. */
 static void compare_frames(void)
 {
     static const uint8_t waiting[] = {0, 0xED, 0xF0, 0xF3, 0xFB, 0xFC, 0xFD};
     union record record = bases[1];
 
-    begin_cases("frames", "command that waits", "frame");
-    for (unsigned i = 0; i < LENGTH(waiting); i++) {
-        record.parts.waiting = waiting[i];
-        for (uint32_t frame = 0; frame < 2048; frame++)
-            compare_frame(&record, frame);
-        for (unsigned bit = 11; bit < 32; bit++)
-            for (unsigned byte = 0xED; byte <= 0xFF; byte++) {
-                uint32_t high = (uint32_t)1 << bit;
-                compare_frame(&record, high | frame_of(byte));
-                compare_frame(&record, high | (uint32_t)random_bits());
-            }
+    begin_cases("frames", "set", "command that waits");
+    for (uint8_t set = 1; set <= 3; set++)
+        for (unsigned i = 0; i < LENGTH(waiting); i++) {
+            record.parts.set = set;
+            record.parts.waiting = waiting[i];
+            name_case(set, waiting[i]);
+            compare_frames_on(&record);
+        }
+    end_cases();
+}
+
+static void step_reads(union record *record, unsigned count)
+{
+    while (count-- > 0)
+        step_both(record, (struct call){.kind = READ});
+}
+
+/* The last read gives nothing. */
+static void read_all(union record *record)
+{
+    while (record->parts.reply_count > 0 || record->parts.queue_length > 0)
+        step_reads(record, 1);
+    step_reads(record, 1);
+}
+
+/* FE in the end has the last byte sent again that was read, which may be the set. */
+static void compare_question(const union record *base, uint8_t set, unsigned byte, unsigned reads)
+{
+    const unsigned bytes[] = {0xF0, byte, 0x00, 0xFE};
+    union record record = *base;
+
+    record.parts.set = set;
+    name_case(set, byte);
+    for (unsigned i = 0; i < LENGTH(bytes); i++) {
+        step_both(&record, (struct call){.kind = FRAME, .frame = frame_of(bytes[i])});
+        step_reads(&record, reads);
     }
+    read_all(&record);
+}
+
+/* F0, every byte, and the question 00, in each set, with none to three reads behind each frame. Once
+ * from a handover, so that key bytes wait at the question; in set 2 it is still open then. */
+static void compare_questions(void)
+{
+    begin_cases("questions which set is in use", "set", "byte before 00");
+    for (uint8_t set = 1; set <= 3; set++)
+        for (unsigned byte = 0; byte < 256; byte++)
+            for (unsigned reads = 0; reads <= 3; reads++) {
+                compare_question(&bases[1], set, byte, reads);
+                compare_question(&bases[2], set, byte, reads);
+            }
     end_cases();
 }
 
@@ -416,6 +467,7 @@ int main(int count, char **words)
     compare_places();
     compare_wrong_maps();
     compare_frames();
+    compare_questions();
     print_answers();
     return 0;
 }

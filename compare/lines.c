@@ -238,6 +238,25 @@ void choose_set(void)
     host_pair(0xF0, between(1, 3));
 }
 
+/* 00 is the question behind F0, whatever was wrong between them; behind another
+ * command it is a value, or wrong. The next frame finds both replies of the
+ * question, or one, or none; then FE has the set sent again. */
+void ask_which_set(void)
+{
+    if (chance(85))
+        host(chance(85) ? 0xF0 : draw_valued_command());
+    if (chance(15))
+        host(0xFE);
+    if (chance(15))
+        host(below(0xED));
+    if (chance(25))
+        host(some_command());
+    put_frame(frame_of(0x00));
+    reads(below(4));
+    if (chance(40))
+        host(0xFE);
+}
+
 void some_host_bytes(void)
 {
     unsigned command = some_command();

@@ -46,6 +46,7 @@ void host(unsigned byte);
 void host_pair(unsigned command, unsigned value);
 unsigned some_rate(void);
 void choose_set(void);
+void ask_which_set(void);         /* 00 behind F0, or where it asks nothing */
 void set_type_of(unsigned which); /* of a special key, in set 3 */
 void some_host_bytes(void);       /* a command and what may follow it, right or wrong */
 void broken_frame(void);

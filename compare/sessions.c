@@ -201,6 +201,28 @@ static void storm(void)
         host(0xF4);
 }
 
+/* The question which set is in use, in each set, with keys held, and while so
+ * many come up with their panel that one queue cannot hold their releases. */
+static void ask_for_sets(void)
+{
+    for (unsigned i = between(2, 6); i > 0; i--) {
+        if (chance(60))
+            choose_set();
+        if (chance(40)) {
+            move_some_contact();
+            scans(3);
+        }
+        if (chance(20)) {
+            close_many(30);
+            scans(3);
+            swap();
+        }
+        ask_which_set();
+    }
+    if (chance(60))
+        host(0xF4);
+}
+
 /* Keys held with nothing read, up to an overrun. */
 static void flood(void)
 {
@@ -329,9 +351,9 @@ static void rest(void)
 static void choose_mood(void)
 {
     static void (*const moods[])(void) = {
-        type_keys, play_chords, hold_key, hold_key, set_types, choose_set, choose_set, storm,
-        flood, flood, swap_panels, swap_panels, wash_panel, stop_and_start, rattle, noise,
-        refused_or_broken, rest
+        type_keys, play_chords, hold_key, hold_key, set_types, choose_set, choose_set, ask_for_sets,
+        ask_for_sets, storm, flood, flood, swap_panels, swap_panels, wash_panel, stop_and_start,
+        rattle, noise, refused_or_broken, rest
     };
     static const unsigned eagerness[] = {0, 10, 50, 100};
     static unsigned weights[LENGTH(moods)];

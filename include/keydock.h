@@ -64,7 +64,7 @@ extern "C" {
 
 /* The version, as three numbers and as a string with dots between them. */
 #define KEYDOCK_VERSION_MAJOR 1
-#define KEYDOCK_VERSION_MINOR 0
+#define KEYDOCK_VERSION_MINOR 1
 #define KEYDOCK_VERSION_PATCH 0
 #define KEYDOCK_VERSION KEYDOCK_DOTTED(KEYDOCK_VERSION_MAJOR, KEYDOCK_VERSION_MINOR, KEYDOCK_VERSION_PATCH)
 #define KEYDOCK_DOTTED(major, minor, patch) KEYDOCK_QUOTED(major) "." KEYDOCK_QUOTED(minor) "." KEYDOCK_QUOTED(patch)

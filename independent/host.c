@@ -28,6 +28,9 @@ enum {
 
 enum { ACKNOWLEDGE = 0xFA, SELF_TEST_PASSED = 0xAA };
 
+/* In place of a set: the host asks which one is in use. */
+enum { WHICH_SET = 0 };
+
 bool takes_value(unsigned command)
 {
     switch (command) {
@@ -150,9 +153,10 @@ static bool use_value(struct dock *dock, uint8_t value)
         dock->indicators = value;
         return true;
     case SELECT_SET:
-        if (value < 1 || value > 3)
+        if (value > 3)
             return false;
-        dock->set = value;
+        if (value != WHICH_SET)
+            dock->set = value;
         return true;
     case SET_RATE:
         if (value > 0x7F)
@@ -168,6 +172,14 @@ static bool use_value(struct dock *dock, uint8_t value)
     }
 }
 
+/* Answers a right value while its command still waits. */
+static void answer_value(struct dock *dock, uint8_t value)
+{
+    reply(dock, ACKNOWLEDGE);
+    if (dock->waiting == SELECT_SET && value == WHICH_SET)
+        reply(dock, dock->set);
+}
+
 static void take_byte(struct dock *dock, uint8_t byte)
 {
     if (byte == RESEND) {
@@ -175,8 +187,8 @@ static void take_byte(struct dock *dock, uint8_t byte)
     } else if (byte >= FIRST_COMMAND) {
         take_command(dock, byte);
     } else if (dock->waiting && use_value(dock, byte)) {
+        answer_value(dock, byte);
         dock->waiting = 0;
-        reply(dock, ACKNOWLEDGE);
     } else {
         reply(dock, RESEND);
     }

@@ -80,8 +80,7 @@ module _ (d : Dock) (scans : List (List ℕ)) (r : IsReady d scans) (byte : ℕ)
       go true e = rw (eqb-true byte 0xff e) (fresh-ready d scans r)
       go false e =
           by-byte Fine byte d (λ fe. r) (λ other high. obeyed-ready (eqb-false byte 0xff e))
-          (λ low right. by-value Fine byte d (λ ed. r) (λ f0. r) (λ f3. r) r)
-          (λ low wrong. r)
+          (λ low. by-value Fine byte d r (λ f0. r) r r r r)
 
 -- The call, refused or not.
 pub frame-settled : (d : Dock) (o : Onlooker) (number : ℕ) → inRange d ≡ true → Settled d (o .scans)
@@ -141,9 +140,7 @@ module _ (d : Dock) (t : Terminal) (f : Follows d t) (byte : ℕ) where
   took-follows c =
       let same : Follows (withWaiting d 0) t = record { chosen = f .chosen; firm = λ e. omega arith; told = f .told } in
       by-byte (λ (e : Dock). Follows e t) byte d (λ fe. f) (λ other high. commanded-follows (mild byte c))
-      (λ low right. by-value (λ (e : Dock). Follows (replying (0xfa ∷ []) (withWaiting e 0)) t) byte d
-      (λ ed. same) (λ f0. absurd (f .firm f0)) (λ f3. same) same)
-      (λ low wrong. f)
+      (λ low. by-value (λ (e : Dock). Follows e t) byte d same (λ f0. absurd (f .firm f0)) same same same f)
 
 -- The call, refused or not.
 pub frame-follows : (d : Dock) (t : Terminal) (number : ℕ) → inRange d ≡ true → isClearing number ≡ false → Follows d t

@@ -8,7 +8,7 @@ use Prim.Native.Nat.{ℕ, _≤_, _<_}
 use native.Mathlib.Omega.{arith}
 use borrow.Author.Tests.{eqb-true, leb-true, leb-false, ne-eqb, lt-leb}
 use lib.Dec.{eqb, leb}
-use Rattle.basics.specs.Choice.{pick, both}
+use Rattle.basics.specs.Choice.{pick, both, between}
 use Rattle.basics.proofs.Cases.{by-cases, picked, two-by-cases}
 use Rattle.basics.proofs.Flags.{both-false}
 use Rattle.commands.specs.Commands.{obeyed, replying, commanded}
@@ -21,19 +21,21 @@ use Rattle.dock.specs.Swap.{swapOf}
 use Rattle.frames.specs.declared.Unpacked.{Unpacked}
 use Rattle.frames.specs.declared.Unpacked.the-variants.{Byte, Broken, TooLarge}
 use Rattle.frames.specs.Frames.{unpackedOf}
-use Rattle.host.specs.Values.{rightValue, valued, tookValue, tookByte}
+use Rattle.host.specs.declared.values.Asked.{Asked}
+use Rattle.host.specs.declared.values.Asked.the-variants.{Indicators, Set, WhichSet, Rate, KeyType, Wrong}
+use Rattle.host.specs.Values.{askedOf, isRight, valued, tookValue, tookByte}
 use Rattle.host.proofs.Ladder.{by-value, by-byte}
 use Rattle.keying.specs.Handover.{handedOver}
+use Rattle.lookup.specs.Lookup.{keyWith}
 use Rattle.range.specs.Range.{inRange, takesValue}
 use Rattle.record.specs.declared.Dock.{Dock}
 use Rattle.record.specs.declared.Mode.{Mode}
 use Rattle.record.specs.Views.{keysOf}
-use Rattle.record.specs.Parts.{withWaiting}
 use Rattle.record.specs.Power.{freshWith}
 use Rattle.runs.specs.Clearing.{clears, carries, isClearing}
 use Rattle.runs.specs.Onlookers.{Onlooker, onlooker, sawScan, isMap, sawSwap, scanningAfter, waitingAfter, setAfter, sawByte, sawFrame}
-use Rattle.runs.specs.Rules.{oneOf, valuesFor}
-use Rattle.agreement.proofs.Rules.{waits-same, right-same}
+use Rattle.runs.specs.Rules.{oneOf, sets}
+use Rattle.agreement.proofs.Rules.{waits-same, sets-same, right-same}
 use Rattle.agreement.proofs.Framed.{mild, obeyed-mild}
 use Rattle.agreement.proofs.Staying.{Stays, scan-stays, read-stays, swap-stays}
 
@@ -48,15 +50,11 @@ unchosen : (byte set : ℕ) → (byte ≡ 0xf5 → ⊥) → (byte ≡ 0xf6 → �
 unfolding oneOf
 unchosen byte set a b c = rw (ne-eqb byte 0xf5 a, ne-eqb byte 0xf6 b, ne-eqb byte 0xff c)
 
--- which are no values,
-high-value : (value : ℕ) → 0xed ≤ value → rightValue 0xf0 value ≡ false
-unfolding rightValue
-high-value value h = rw (lt-leb value 3 (omega arith)) (both-false (leb 1 value))
-
+-- which are no sets,
 high-chosen : (byte waiting set : ℕ) → 0xed ≤ byte → setAfter byte waiting set ≡ pick (oneOf byte (0xf5 ∷ 0xf6 ∷ 0xff ∷ [])) 2 set
 unfolding setAfter
 high-chosen byte waiting set high =
-    let none : oneOf byte (valuesFor 0xf0) ≡ false = right-same 0xf0 byte ∙ high-value byte high in
+    let none : oneOf byte sets ≡ false = sets-same byte ∙ rw (lt-leb byte 3 (omega arith)) (both-false (leb 1 byte)) in
     rw (none, both-false (eqb waiting 0xf0))
 
 -- and among the values, which are no commands.
@@ -86,22 +84,26 @@ module _ (d : Dock) (byte : ℕ) where
       (λ low high. unturned byte (d .rest .scanning) (λ e. omega arith) (λ e. omega arith) (λ e. omega arith))
       (λ ff. rw ff)
       (λ m. unturned byte (d .rest .scanning) (mild-not m 0xf4 (omega arith) (omega arith)) (mild-not m 0xf5 (omega arith) (omega arith)) (m .not-ff)))
-      (λ low right. by-value Turned byte d (λ ed. low-stays low) (λ f0. low-stays low) (λ f3. low-stays low) (low-stays low))
-      (λ low wrong. low-stays low)
+      (λ low.
+      let same = low-stays low in
+      by-value Turned byte d same (λ f0. same) same same same same)
 
   took-waiting : tookByte byte d .rest .waiting ≡ waitingAfter byte (d .rest .waiting)
-  unfolding tookByte commanded tookValue waitingAfter
-  took-waiting = rw (waits-same byte, right-same (d .rest .waiting) byte) (go (eqb byte 0xfe) (leb 0xed byte) (rightValue (d .rest .waiting) byte))
+  unfolding tookByte commanded waitingAfter valued
+  took-waiting =
+      rw (waits-same byte, right-same (d .rest .waiting) byte) (go (eqb byte 0xfe) (leb 0xed byte) (askedOf (d .rest .waiting) byte))
     where
-      go : (again command right : Bool)
-          → (pick again (replying (d .rest .given ∷ []) d)
-          (pick command (commanded byte d)
-          (pick right (replying (0xfa ∷ []) (withWaiting (valued (d .rest .waiting) byte d) 0)) (replying (0xfe ∷ []) d)))) .rest .waiting
-          ≡ pick again (d .rest .waiting) (pick command (pick (takesValue byte) byte 0) (pick right 0 (d .rest .waiting)))
-      go true command right = refl
-      go false true right = refl
-      go false false true = refl
-      go false false false = refl
+      go : (again command : Bool) (asked : Asked)
+          → (pick again (replying (d .rest .given ∷ []) d) (pick command (commanded byte d) (valued asked d))) .rest .waiting
+          ≡ pick again (d .rest .waiting) (pick command (pick (takesValue byte) byte 0) (pick (isRight asked) 0 (d .rest .waiting)))
+      go true command asked = refl
+      go false true asked = refl
+      go false false (Indicators indicators) = refl
+      go false false (Set set) = refl
+      go false false WhichSet = refl
+      go false false (Rate rate) = refl
+      go false false (KeyType key type) = refl
+      go false false Wrong = refl
 
   took-map : tookByte byte d .map ≡ d .map
   unfolding commanded freshWith
@@ -110,8 +112,7 @@ module _ (d : Dock) (byte : ℕ) where
       by-byte Same byte d (λ fe. refl)
       (λ other high. by-command Same byte d (λ f0. refl) (λ f4. refl) (λ f5. refl) (λ f6. refl) (λ low high. refl) (λ low high. refl) (λ ff. refl)
       (λ none. refl))
-      (λ low right. by-value Same byte d (λ ed. refl) (λ f0. refl) (λ f3. refl) refl)
-      (λ low wrong. refl)
+      (λ low. by-value Same byte d refl (λ f0. refl) refl refl refl refl)
 
   -- A command: F5, F6 and FF choose set 2, and no other chooses one.
   Chosen : Dock → Type 0
@@ -130,24 +131,26 @@ module _ (d : Dock) (byte : ℕ) where
       (λ ff. rw ff)
       (λ m. unchosen byte (d .rest .mode .set) (mild-not m 0xf5 (omega arith) (omega arith)) (mild-not m 0xf6 (omega arith) (omega arith)) (m .not-ff))
 
-  -- A value: that of F0 is the set.
+  -- A value: one of F0 that is a set is the set.
   value-chosen : byte < 0xed → tookValue byte d .rest .mode .set ≡ setAfter byte (d .rest .waiting) (d .rest .mode .set)
-  unfolding tookValue valued setAfter
+  unfolding valued askedOf setAfter
   value-chosen low =
-      rw (low-chosen byte low, right-same 0xf0 byte) (go (eqb (d .rest .waiting) 0xf0) refl)
+      rw (low-chosen byte low, sets-same byte) (go (d .rest .waiting) (eqb (d .rest .waiting) 0xf0) refl)
     where
-      Same : Dock → Type 0
-      Same e = e .rest .mode .set ≡ d .rest .mode .set
+      Same : Asked → Type 0
+      Same asked = valued asked d .rest .mode .set ≡ d .rest .mode .set
 
-      go : (choosing : Bool) → eqb (d .rest .waiting) 0xf0 ≡ choosing
-          → tookValue byte d .rest .mode .set ≡ pick (both choosing (rightValue 0xf0 byte)) byte (d .rest .mode .set)
-      go true e =
-          rw (eqb-true (d .rest .waiting) 0xf0 e)
-          (two-by-cases (λ (x : Dock) (set : ℕ). x .rest .mode .set ≡ set) (rightValue 0xf0 byte) _ _ _ _ (λ right. refl) (λ wrong. refl))
-      go false e =
-          picked Same (rightValue (d .rest .waiting) byte) _ _
-          (picked Same (eqb (d .rest .waiting) 0xed) _ _ refl (rw e (picked Same (eqb (d .rest .waiting) 0xf3) _ _ refl refl)))
-          refl
+      go : (command : ℕ) (choosing : Bool) → eqb command 0xf0 ≡ choosing
+          → valued (askedOf command byte) d .rest .mode .set ≡ pick (both choosing (between 1 3 byte)) byte (d .rest .mode .set)
+      go command true e =
+          rw (eqb-true command 0xf0 e)
+          (two-by-cases (λ (asked : Asked) (set : ℕ). valued asked d .rest .mode .set ≡ set) (between 1 3 byte) _ _ _ _
+          (λ chosen. refl) (λ none. picked Same (eqb byte 0) _ _ refl refl))
+      go command false e =
+          picked Same (eqb command 0xed) _ _ (picked Same (leb byte 7) _ _ refl refl)
+          (rw e
+          (picked Same (eqb command 0xf3) _ _ (picked Same (leb byte 127) _ _ refl refl)
+          (picked Same (between 0xfb 0xfd command) _ _ (picked Same (eqb (keyWith 3 byte) 0) _ _ refl refl) refl)))
 
   took-chosen : tookByte byte d .rest .mode .set ≡ setAfter byte (d .rest .waiting) (d .rest .mode .set)
   unfolding tookByte commanded Chosen
@@ -167,8 +170,7 @@ module _ (d : Dock) (byte : ℕ) where
   took-set m firm =
       let Same : Dock → Type 0 = λ (e : Dock). e .rest .mode .set ≡ d .rest .mode .set in
       by-byte Same byte d (λ fe. refl) (λ other high. ap (λ (e : Dock). e .rest .mode .set) (obeyed-mild byte d m))
-      (λ low right. by-value Same byte d (λ ed. refl) (λ f0. absurd (firm f0)) (λ f3. refl) refl)
-      (λ low wrong. refl)
+      (λ low. by-value Same byte d refl (λ f0. absurd (firm f0)) refl refl refl refl)
 
 -- What the onlooker knows is so.
 abbrev pub Knows : Dock → Onlooker → Type 0

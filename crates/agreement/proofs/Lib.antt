@@ -15,6 +15,7 @@ pub mod ThirdDemand
 pub mod Holding
 pub mod Bounds
 pub mod Giving
+pub mod Asking
 pub mod Ending
 pub mod AfterReads
 pub mod Queuing

@@ -61,8 +61,7 @@ module _ (d : Dock) where
   took-keys byte mildly =
       let Same : Dock → Type 0 = λ (e : Dock). keysOf e ≡ keysOf d in
       by-byte Same byte d (λ fe. refl) (λ other high. ap (λ (e : Dock). keysOf e) (obeyed-mild byte d (mild byte mildly)))
-      (λ low right. by-value Same byte d (λ ed. refl) (λ f0. refl) (λ f3. refl) refl)
-      (λ low wrong. refl)
+      (λ low. by-value Same byte d refl (λ f0. refl) refl refl refl refl)
 
   frame-bytes : (number : ℕ) → inRange d ≡ true → isClearing number ≡ false
       → bytesOf (frameOf d number .dock) ≡ bytesOf d ++ queuedBy d (Frame number)

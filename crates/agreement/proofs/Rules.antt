@@ -3,7 +3,7 @@
 use mathlib.Core.Path.{_≡_, refl, sym, ap, ap₂, _∙_}
 use mathlib.Core.Bool.{Bool, true, false, not}
 use mathlib.Core.List.{List, [], _∷_, map}
-use Prim.Native.Nat.{ℕ, zero, suc, _+_, _*_, _/_, _%_, _^_, _≤_, _<_}
+use Prim.Native.Nat.{ℕ, zero, suc, _+_, _*_, _-_, _/_, _%_, _^_, _≤_, _<_}
 use native.Mathlib.Decide.{ℕ-discrete}
 use native.Mathlib.Nat.{zero-add}
 use native.Mathlib.Omega.{arith}
@@ -14,14 +14,16 @@ use lib.Dec.{eqb, leb}
 use Rattle.basics.specs.Choice.{pick, both, either, between}
 use Rattle.basics.proofs.Cases.{two-by-cases}
 use Rattle.basics.proofs.Tables.{valuesBelow, alike-below}
-use Rattle.host.specs.Values.{rightValue}
+use Rattle.host.specs.declared.values.Asked.{Asked}
+use Rattle.host.specs.declared.values.Asked.the-variants.{Indicators, Set, WhichSet, Rate, KeyType, Wrong}
+use Rattle.host.specs.Values.{askedOf, isRight}
 use Rattle.keys.specs.declared.Row.{Row}
 use Rattle.keys.specs.Keys.{rows}
 use Rattle.lookup.specs.Lookup.{firstWith, keyWith}
 use Rattle.phantom.specs.Phantom.{sharesAny, isPhantom}
 use Rattle.range.specs.Range.{takesValue}
 use Rattle.dock.specs.Calls.{asBytes}
-use Rattle.runs.specs.Rules.{oneOf, numbersFrom, closedIn, inCommon, sharesTwo, looksPhantom, setThreeCodes, valuesFor, waitsForValue}
+use Rattle.runs.specs.Rules.{oneOf, numbersFrom, closedIn, inCommon, sharesTwo, looksPhantom, setThreeCodes, sets, valuesFor, waitsForValue}
 
 -- A row that is closed in both of two columns is closed in what they have in common.
 row-and : (x y row : ℕ) → closedIn (bitAnd x y) row ≡ closedIn x row * closedIn y row
@@ -117,19 +119,40 @@ among-none : (value : ℕ) → oneOf value [] ≡ false
 unfolding oneOf
 among-none value = refl
 
+-- The sets.
+pub sets-same : (value : ℕ) → oneOf value sets ≡ between 1 3 value
+unfolding sets
+sets-same value = among-numbers value 2 1
+
 -- The values that are right.
-pub right-same : (command value : ℕ) → oneOf value (valuesFor command) ≡ rightValue command value
-unfolding valuesFor rightValue setThreeCodes keyWith
+pub right-same : (command value : ℕ) → oneOf value (valuesFor command) ≡ isRight (askedOf command value)
+unfolding valuesFor askedOf setThreeCodes keyWith oneOf
 right-same command value =
-    let Right : List ℕ → Bool → Type 0 = λ (l : List ℕ) (b : Bool). oneOf value l ≡ b in
-    two-by-cases Right (eqb command 0xed) _ _ _ _ (λ h. up-to 7)
-    (λ h. two-by-cases Right (eqb command 0xf0) _ _ _ _ (λ h. among-numbers value 2 1)
-    (λ h. two-by-cases Right (eqb command 0xf3) _ _ _ _ (λ h. up-to 127)
-    (λ h. rw (among-numbers command 2 0xfb) (go (between 0xfb 0xfd command)))))
+    let Right : List ℕ → Asked → Type 0 = λ (l : List ℕ) (asked : Asked). oneOf value l ≡ isRight asked in
+    two-by-cases Right (eqb command 0xed) _ _ _ _ (λ h. up-to 7 ∙ sym (right-if (leb value 7) (Indicators value) refl))
+    (λ h. two-by-cases Right (eqb command 0xf0) _ _ _ _ (λ h. a-set)
+    (λ h. two-by-cases Right (eqb command 0xf3) _ _ _ _ (λ h. up-to 127 ∙ sym (right-if (leb value 127) (Rate value) refl))
+    (λ h. rw (among-numbers command 2 0xfb) (two-by-cases Right (between 0xfb 0xfd command) _ _ _ _ (λ h. a-code) (λ h. among-none value)))))
   where
     up-to : (n : ℕ) → oneOf value (numbersFrom 0 (suc n)) ≡ leb value n
     up-to n = among-numbers value n 0 ∙ rw (le-leb 0 value (omega arith), zero-add n)
 
-    go : (b : Bool) → oneOf value (pick b setThreeCodes []) ≡ both b (not (eqb (keyWith 3 value) 0))
-    go true = codes-same value rows 0
-    go false = among-none value
+    right-if : (b : Bool) (asked : Asked) → isRight asked ≡ true → isRight (pick b asked Wrong) ≡ b
+    right-if true asked e = e
+    right-if false asked e = refl
+
+    a-set : oneOf value (0 ∷ sets) ≡ isRight (pick (between 1 3 value) (Set value) (pick (eqb value 0) WhichSet Wrong))
+    a-set = rw (sets-same value) (go (eqb value 0) (between 1 3 value))
+      where
+        go : (zero one : Bool) → either zero one ≡ isRight (pick one (Set value) (pick zero WhichSet Wrong))
+        go true true = refl
+        go true false = refl
+        go false true = refl
+        go false false = refl
+
+    a-code : oneOf value setThreeCodes ≡ isRight (pick (eqb (keyWith 3 value) 0) Wrong (KeyType (keyWith 3 value) (command - 0xfb)))
+    a-code = codes-same value rows 0 ∙ go (eqb (keyWith 3 value) 0)
+      where
+        go : (none : Bool) → not none ≡ isRight (pick none Wrong (KeyType (keyWith 3 value) (command - 0xfb)))
+        go true = refl
+        go false = refl

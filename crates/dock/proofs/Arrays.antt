@@ -153,9 +153,10 @@ module _ (d : Dock) (s : IsSized d) where
   took-sized byte =
       by-byte IsSized byte d (λ fe. other-replies s (one-reply (d .rest .given)))
       (λ other high. other-replies (obeyed-sized byte) (places-repliesOf (replyTo byte) (reply-short byte)))
-      (λ low right. other-replies
-      (by-value IsSized byte d (λ ed. s) (λ f0. s) (λ f3. s) (other-types s (simp length-set (s .types)))) (one-reply 0xfa))
-      (λ low wrong. other-replies s (one-reply 0xfe))
+      (λ low.
+      let same = other-replies s (one-reply 0xfa) in
+      by-value IsSized byte d same (λ f0. same) (other-replies s (places-repliesOf (0xfa ∷ d .rest .mode .set ∷ []) (omega arith)))
+      same (other-replies (other-types s (simp length-set (s .types))) (one-reply 0xfa)) (other-replies s (one-reply 0xfe)))
 
   pub frame-sized : (number : ℕ) → IsSized (frameOf d number .dock)
   frame-sized number = frame-keeps IsSized closing-sized d s number took-sized (other-replies s (one-reply 0xfe))

@@ -9,7 +9,7 @@ use Rattle.contacts.specs.Counts.{Contacts}
 use Rattle.contacts.proofs.Pointwise.{closed-length, counts-length}
 use Rattle.commands.specs.Commands.{obeyed, commanded}
 use Rattle.commands.proofs.Ladder.{by-command}
-use Rattle.host.specs.Values.{valued, tookByte}
+use Rattle.host.specs.Values.{tookByte}
 use Rattle.host.proofs.Ladder.{by-value, by-byte}
 use Rattle.record.specs.declared.Dock.{Dock}
 use Rattle.record.specs.Views.{contactsOf}
@@ -75,9 +75,7 @@ unfolding commanded
 took-sizes byte d s =
     by-byte Sizes byte d (λ fe. like d _ s refl)
     (λ other high. like (obeyed byte d) _ (obeyed-sizes byte d s) refl)
-    (λ low right. like (valued (d .rest .waiting) byte d) _
-    (by-value Sizes byte d (λ ed. like d _ s refl) (λ f0. like d _ s refl) (λ f3. like d _ s refl) (like d _ s refl)) refl)
-    (λ low wrong. like d _ s refl)
+    (λ low. by-value Sizes byte d (like d _ s refl) (λ f0. like d _ s refl) (like d _ s refl) (like d _ s refl) (like d _ s refl) (like d _ s refl))
 
 pub frame-sizes : (d : Dock) (number : ℕ) → Sizes d → Sizes (frameOf d number .dock)
 frame-sizes d number s = frame-keeps Sizes closing-sizes d s number (λ byte. took-sizes byte d s) (like d _ s refl)

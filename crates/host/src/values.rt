@@ -7,62 +7,105 @@ use hostbytes::KEY_TYPE;
 use hostbytes::LAST_KEY_TYPE;
 use hostbytes::RATE;
 use hostbytes::RESEND;
+use hostbytes::WHICH_SET;
+use record::Mode;
 use record::Rest;
 use record::Types;
-ghost use mathlib.Core.Path.{_≡_};
-ghost use mathlib.Core.Bool.{true};
-ghost use Rattle.record.specs.InPlace.{TypesAfter};
-ghost use Rattle.host.specs.Values.{rightValue, valued, tookValue};
+ghost use mathlib.Core.List.{[]};
+ghost use Rattle.basics.specs.Said.{Answers};
+ghost use Rattle.record.specs.declared.Dock.{Dock};
+ghost use Rattle.record.specs.InPlace.{RestAfter, TypesAfter};
+ghost use Rattle.record.specs.Parts.{withMode};
+ghost use Rattle.host.specs.Values.{askedOf, askedSays, askedSaid, granted, tookValue};
 
-// A value that a command takes: indicators, a set, a rate, or the set 3 code of a key. No other byte takes one.
-fn is_right(command: u8, value: u8) -> bool
-    ensures { λ r. ⌜ r ≡ rightValue command value ⌝ }
+// What a value asks of the command that waits for it.
+pub enum Asked {
+    // The indicators.
+    Indicators(u8),
+    // A set,
+    Set(u8),
+    // and which one is in use.
+    WhichSet,
+    // A rate.
+    Rate(u8),
+    // A key, and its type.
+    KeyType(u8, u8),
+    // Nothing that the command knows, or no command waits.
+    Wrong,
+}
+
+// The check of a value: no other function looks at it.
+fn asked_of(command: u8, value: u8) -> Asked
+    ensures { λ r. ⌜ Answers askedSays r (askedOf command value) (askedSaid command value) ⌝ }
 {
     match command {
-        INDICATORS => value <= 7,
-        CHOOSE_SET => (1 <= value) & (value <= 3),
-        RATE => value <= 127,
-        KEY_TYPE..=LAST_KEY_TYPE => lookup::in_set3(value) != 0,
-        _ => false,
+        INDICATORS => {
+            if value <= 7 {
+                return Asked::Indicators(value);
+            }
+            Asked::Wrong
+        }
+        CHOOSE_SET => match value {
+            WHICH_SET => Asked::WhichSet,
+            1..=3 => Asked::Set(value),
+            _ => Asked::Wrong,
+        },
+        RATE => {
+            if value <= 127 {
+                return Asked::Rate(value);
+            }
+            Asked::Wrong
+        }
+        KEY_TYPE..=LAST_KEY_TYPE => {
+            let key = lookup::in_set3(value);
+            if key == 0 {
+                return Asked::Wrong;
+            }
+            Asked::KeyType(key, command - KEY_TYPE)
+        }
+        _ => Asked::Wrong,
     }
 }
 
-// What such a value does. The types are lent.
-fn apply(types: &mut Types, rest: Rest, command: u8, value: u8) -> Rest
-    requires { ⌜ rightValue command value ≡ true ⌝ }
-    ensures { λ r. ⌜ TypesAfter (valued command value) types rest r ⌝ }
+// A right value with its mode: it ends the wait, and FA alone answers it.
+fn grant(rest: Rest, mode: Mode) -> Rest
+    ensures { λ r. ⌜ RestAfter (λ (d : Dock). granted [] (withMode d mode)) rest r ⌝ }
 {
-    let mut mode = rest.mode;
     let mut after = rest;
-    if command == INDICATORS {
-        mode.indicators = value;
-        after.mode = mode;
-        return after;
-    }
-    if command == CHOOSE_SET {
-        mode.set = value;
-        after.mode = mode;
-        return after;
-    }
-    if command == RATE {
-        mode.rate = value;
-        after.mode = mode;
-        return after;
-    }
-    let key = lookup::in_set3(value) as usize;
-    types[key] = command - KEY_TYPE;
-    after
+    after.mode = mode;
+    after.waiting = 0;
+    reply(after, ACKNOWLEDGED)
 }
 
-// A byte below ED: the value of the command that waits, if it is right for it.
+// A byte below ED: a value for the command that waits, if one does. The types are lent.
 pub fn take_value(types: &mut Types, rest: Rest, byte: u8) -> Rest
     ensures { λ r. ⌜ TypesAfter (tookValue byte) types rest r ⌝ }
 {
-    let command = rest.waiting;
-    if !is_right(command, byte) {
-        return reply(rest, RESEND);
+    let mut mode = rest.mode;
+    let asked = asked_of(rest.waiting, byte);
+    match asked {
+        Asked::Indicators(indicators) => {
+            mode.indicators = indicators;
+            grant(rest, mode)
+        }
+        Asked::Set(set) => {
+            mode.set = set;
+            grant(rest, mode)
+        }
+        Asked::WhichSet => {
+            let mut after = rest;
+            after.waiting = 0;
+            after.replies = replies::two(ACKNOWLEDGED, mode.set);
+            after
+        }
+        Asked::Rate(rate) => {
+            mode.rate = rate;
+            grant(rest, mode)
+        }
+        Asked::KeyType(key, kind) => {
+            types[key as usize] = kind;
+            grant(rest, mode)
+        }
+        Asked::Wrong => reply(rest, RESEND),
     }
-    let mut after = apply(types, rest, command, byte);
-    after.waiting = 0;
-    reply(after, ACKNOWLEDGED)
 }

@@ -14,6 +14,10 @@ echo = 0xee
 abbrev pub chooseSet : ℕ
 chooseSet = 0xf0
 
+-- In place of a set: which one is in use?
+abbrev pub whichSet : ℕ
+whichSet = 0
+
 abbrev pub identify : ℕ
 identify = 0xf2
 

@@ -9,6 +9,9 @@ pub const ECHO: u8 = 0xee;
 
 pub const CHOOSE_SET: u8 = 0xf0;
 
+// In place of a set: which one is in use?
+pub const WHICH_SET: u8 = 0;
+
 pub const IDENTIFY: u8 = 0xf2;
 
 pub const RATE: u8 = 0xf3;

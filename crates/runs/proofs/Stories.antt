@@ -20,7 +20,7 @@ use Rattle.keying.specs.Repeat.{delayOf, intervalOf, repeated}
 use Rattle.keying.specs.Handover.{handedFrom}
 use Rattle.frames.specs.Frames.{parity, packedOf, whole, unpackedOf}
 use Rattle.commands.specs.Commands.{obeyed, replyTo, commanded}
-use Rattle.host.specs.Values.{rightValue, valued, tookValue, tookByte}
+use Rattle.host.specs.Values.{askedOf, valued, tookByte}
 use Rattle.maps.specs.Maps.{isIn, hasDouble}
 use Rattle.dock.specs.Closing.{closing}
 use Rattle.dock.specs.Scan.{listening, isCounted, counting, changed, repeating, heardScan, scanned, scanOf}
@@ -35,7 +35,7 @@ use Rattle.terminal.specs.Terminals.{begun, hears}
 use Rattle.runs.specs.Bytes.{givenIn}
 use Rattle.runs.specs.Clearing.{clears, isClearing}
 use Rattle.runs.specs.Onlookers.{atPowerOn, isCountedBy, sawScan, isMap, sawSwap, scanningAfter, waitingAfter, setAfter, sawByte}
-use Rattle.runs.specs.Rules.{oneOf, numbersFrom, inCommon, sharesTwo, looksPhantom, setThreeCodes, valuesFor, waitsForValue}
+use Rattle.runs.specs.Rules.{oneOf, numbersFrom, inCommon, sharesTwo, looksPhantom, setThreeCodes, sets, valuesFor, waitsForValue}
 use Rattle.runs.specs.Machines.{lowestFrom, findsNoRoom, keyLeft}
 use Rattle.runs.specs.Worlds.{woken, next, afterCalls}
 use Rattle.runs.specs.Runs.{noneHeldFrom, mayBegin, turningBytes, overruns, undisturbed}
@@ -58,7 +58,7 @@ unfolding
     sends queuedOf
     pressed releasedWith released moved turned turnsTo delayOf intervalOf repeated handedFrom
     parity packedOf whole unpackedOf
-    obeyed replyTo commanded rightValue valued tookValue tookByte
+    obeyed replyTo commanded askedOf valued tookByte
     isIn hasDouble
     closing listening isCounted counting changed repeating heardScan scanned scanOf opened remapped swapped swapOf tookFrame
     frameOf remembering replyTaken keyByteTaken read readOf
@@ -67,7 +67,7 @@ unfolding
     moveBytes turnBytesAt turnBytes
     begun hears
     clears isClearing atPowerOn isCountedBy sawScan isMap sawSwap scanningAfter waitingAfter setAfter sawByte
-    oneOf numbersFrom inCommon sharesTwo looksPhantom setThreeCodes valuesFor waitsForValue lowestFrom findsNoRoom keyLeft
+    oneOf numbersFrom inCommon sharesTwo looksPhantom setThreeCodes sets valuesFor waitsForValue lowestFrom findsNoRoom keyLeft
     woken next afterCalls noneHeldFrom mayBegin turningBytes
     overruns undisturbed outcome flagged saidFrom host nothing showing showingToo stories limestone heldOn repeatEnded
     shiftedCursor shiftedCursorInSet1 shiftLetGo twelve twelvePressed twelveReleased givenIn longHandover secondSwap

@@ -11,7 +11,7 @@ use Rattle.frames.specs.declared.Unpacked.the-variants.{Byte, Broken, TooLarge}
 use Rattle.keys.specs.Keys.{lastKey}
 use Rattle.maps.specs.Maps.{hasDouble}
 use Rattle.record.specs.Power.{plainMap}
-use Rattle.runs.specs.Rules.{oneOf, looksPhantom, valuesFor, waitsForValue}
+use Rattle.runs.specs.Rules.{oneOf, looksPhantom, sets, valuesFor, waitsForValue}
 
 -- The map of the panel that is clipped on, whether scanning is on, the command that waits for its value (0 for none), the set that is
 -- chosen, and the scans counted since the last power-on, reset or swap, in the order in which they came.
@@ -60,10 +60,10 @@ waitingAfter byte waiting =
     pick (eqb byte 0xfe) waiting
     (pick (leb 0xed byte) (pick (waitsForValue byte) byte 0) (pick (oneOf byte (valuesFor waiting)) 0 waiting))
 
--- The set after a byte: F5, F6 and the reset choose set 2, and F0 the one that is its value.
+-- The set after a byte: F5, F6 and the reset choose set 2, and F0 the one that is its value. 00 is none.
 unfoldable pub setAfter : ℕ → ℕ → ℕ → ℕ
 setAfter byte waiting set =
-    pick (oneOf byte (0xf5 ∷ 0xf6 ∷ 0xff ∷ [])) 2 (pick (both (eqb waiting 0xf0) (oneOf byte (valuesFor 0xf0))) byte set)
+    pick (oneOf byte (0xf5 ∷ 0xf6 ∷ 0xff ∷ [])) 2 (pick (both (eqb waiting 0xf0) (oneOf byte sets)) byte set)
 
 -- A byte from the host. After a reset no scan was counted.
 unfoldable pub sawByte : ℕ → Onlooker → Onlooker

@@ -42,12 +42,16 @@ looksPhantom (x ∷ xs) = either (sharesTwo x xs) (looksPhantom xs)
 unfoldable pub setThreeCodes : List ℕ
 setThreeCodes = map (λ (r : Row). r .2) rows
 
--- The values that are right for a command: indicators 0 to 7 for ED, the sets 1 to 3 for F0, a rate from 00 to 7F for F3, and for FB to FD
--- the code of a key. No other byte takes a value.
+-- The sets: 1 to 3.
+unfoldable pub sets : List ℕ
+sets = numbersFrom 1 3
+
+-- The values that are right for a command: indicators 0 to 7 for ED, a set for F0 or 00, which asks for the one in use, a rate from 00 to
+-- 7F for F3, and for FB to FD the code of a key. No other byte takes a value.
 unfoldable pub valuesFor : ℕ → List ℕ
 valuesFor command =
     pick (eqb command 0xed) (numbersFrom 0 8)
-    (pick (eqb command 0xf0) (numbersFrom 1 3)
+    (pick (eqb command 0xf0) (0 ∷ sets)
     (pick (eqb command 0xf3) (numbersFrom 0 128)
     (pick (oneOf command (numbersFrom 0xfb 3)) setThreeCodes [])))
 

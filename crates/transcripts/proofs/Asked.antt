@@ -20,7 +20,7 @@ use Rattle.keying.specs.Repeat.{delayOf, intervalOf, repeated}
 use Rattle.keying.specs.Handover.{handedFrom}
 use Rattle.frames.specs.Frames.{parity, packedOf, whole, unpackedOf}
 use Rattle.commands.specs.Commands.{obeyed, replyTo, commanded}
-use Rattle.host.specs.Values.{rightValue, valued, tookValue, tookByte}
+use Rattle.host.specs.Values.{askedOf, valued, tookByte}
 use Rattle.maps.specs.Maps.{isIn, hasDouble}
 use Rattle.dock.specs.Closing.{closing}
 use Rattle.dock.specs.Scan.{listening, isCounted, counting, changed, repeating, heardScan, scanned, scanOf}
@@ -46,7 +46,7 @@ unfolding
     sends queuedOf
     pressed releasedWith released moved turned turnsTo delayOf intervalOf repeated handedFrom
     parity packedOf whole unpackedOf
-    obeyed replyTo commanded rightValue valued tookValue tookByte
+    obeyed replyTo commanded askedOf valued tookByte
     isIn hasDouble
     closing listening isCounted counting changed repeating heardScan scanned scanOf opened remapped swapped swapOf tookFrame
     frameOf remembering replyTaken keyByteTaken read readOf

@@ -19,13 +19,25 @@ dialogues =
     transcript [] (asked 0xed ++ asked 7 ++ asked 7) (0xfa ∷ 0xfa ∷ 0xfe ∷ []) ∷
     transcript [] (asked 0xed ++ asked 8 ++ asked 0) (0xfa ∷ 0xfe ∷ 0xfa ∷ []) ∷
     transcript [] (asked 0xee ++ asked 0xef ++ asked 0xf1) (0xee ∷ 0xfe ∷ 0xfe ∷ []) ∷
-    transcript [] (asked 0xf0 ++ asked 0 ++ asked 4 ++ asked 3) (0xfa ∷ 0xfe ∷ 0xfe ∷ 0xfa ∷ []) ∷
+    transcript [] (asked 0xf0 ++ asked 4 ++ asked 0xec ++ asked 3) (0xfa ∷ 0xfe ∷ 0xfe ∷ 0xfa ∷ []) ∷
     transcript [] (asked 0xf2) (0xfa ∷ 0xab ∷ 0x83 ∷ []) ∷
     transcript [] (asked 0xf3 ++ asked 0x80 ++ asked 0xec ++ asked 0x7f) (0xfa ∷ 0xfe ∷ 0xfe ∷ 0xfa ∷ []) ∷
     transcript [] (asked 0xf4 ++ asked 0xf5 ++ asked 0xf6 ++ asked 0xf7 ++ asked 0xf8 ++ asked 0xf9 ++ asked 0xfa)
     (replicate 7 0xfa) ∷
     transcript [] (asked 0xfb ++ asked 0 ++ asked 0x1c ++ asked 0xfc ++ asked 0x1c ++ asked 0xfd ++ asked 0x1c)
     (0xfa ∷ 0xfe ∷ replicate 5 0xfa) ∷
+    -- Which set: that of power-on, and no command waits then; the one that was chosen, asked twice; that of F6.
+    transcript [] (asked 0xf0 ++ asked 0 ++ asked 0) (0xfa ∷ 0xfa ∷ 2 ∷ 0xfe ∷ []) ∷
+    transcript (asked 0xf0 ++ asked 3) (asked 0xf0 ++ asked 0 ++ asked 0xf0 ++ asked 0 ++ asked 0xf6 ++ asked 0xf0 ++ asked 0)
+    (0xfa ∷ 0xfa ∷ 3 ∷ 0xfa ∷ 0xfa ∷ 3 ∷ 0xfa ∷ 0xfa ∷ 0xfa ∷ 2 ∷ []) ∷
+    -- FE, a wrong value and two commands in front of 00: the first two leave F0 waiting.
+    transcript (asked 0xf0 ++ asked 1) (asked 0xf0 ++ asked 0xfe ++ asked 0) (0xfa ∷ 0xfa ∷ 0xfa ∷ 1 ∷ []) ∷
+    transcript (asked 0xf0 ++ asked 1) (asked 0xf0 ++ asked 4 ++ asked 0) (0xfa ∷ 0xfe ∷ 0xfa ∷ 1 ∷ []) ∷
+    transcript [] (asked 0xf0 ++ asked 0xee ++ asked 0) (0xfa ∷ 0xee ∷ 0xfe ∷ []) ∷
+    transcript [] (asked 0xf0 ++ asked 0xf3 ++ asked 0) (0xfa ∷ 0xfa ∷ 0xfa ∷ []) ∷
+    -- The set is a reply like any: the next frame drops it, and FE has it sent again.
+    transcript [] (asked 0xf0 ++ Frame (packedOf 0) ∷ reads 1 ++ asked 0xee) (0xfa ∷ 0xfa ∷ 0xee ∷ []) ∷
+    transcript [] (asked 0xf0 ++ asked 0 ++ asked 0xfe) (0xfa ∷ 0xfa ∷ 2 ∷ 2 ∷ []) ∷
     -- A command in place of a value.
     transcript [] (asked 0xf3 ++ asked 0xef ++ asked 0) (0xfa ∷ 0xfe ∷ 0xfe ∷ []) ∷
     -- A byte with no command waiting; a broken frame; one over 2047 leaves the replies as they are.

@@ -21,7 +21,7 @@ use Rattle.keying.specs.Repeat.{delayOf, intervalOf, repeated}
 use Rattle.keying.specs.Handover.{handedFrom}
 use Rattle.frames.specs.Frames.{parity, packedOf, whole, unpackedOf}
 use Rattle.commands.specs.Commands.{obeyed, replyTo, commanded}
-use Rattle.host.specs.Values.{rightValue, valued, tookValue, tookByte}
+use Rattle.host.specs.Values.{askedOf, valued, tookByte}
 use Rattle.maps.specs.Maps.{isIn, hasDouble}
 use Rattle.dock.specs.Closing.{closing}
 use Rattle.dock.specs.Scan.{listening, isCounted, counting, changed, repeating, heardScan, scanned, scanOf}
@@ -36,7 +36,7 @@ use Rattle.terminal.specs.Terminals.{begun, hears, isDown}
 use Rattle.dock.specs.Calls.{Call}
 use Rattle.runs.specs.Clearing.{clears, isClearing}
 use Rattle.runs.specs.Onlookers.{atPowerOn, isCountedBy, sawScan, isMap, sawSwap, scanningAfter, waitingAfter, setAfter, sawByte}
-use Rattle.runs.specs.Rules.{oneOf, numbersFrom, inCommon, sharesTwo, looksPhantom, setThreeCodes, valuesFor, waitsForValue}
+use Rattle.runs.specs.Rules.{oneOf, numbersFrom, inCommon, sharesTwo, looksPhantom, setThreeCodes, sets, valuesFor, waitsForValue}
 use Rattle.runs.specs.Machines.{lowestFrom, findsNoRoom, keyLeft, Machine, nothingWaits}
 use Rattle.runs.specs.Worlds.{woken, next, afterCalls, scansSay}
 use Rattle.runs.specs.Runs.{noneHeldFrom, mayBegin, turningBytes, overruns, undisturbed, beginning}
@@ -55,7 +55,7 @@ use Rattle.runs.specs.Told.{twelve}
 use Rattle.wrong_docks.specs.Breaking.{Wrong, differ, breaks}
 use Rattle.wrong_docks.specs.AtScans.{countsWhileCommandWaits, countsWhileScanningOff, countsDuringHandover, countsPhantoms, countsTwice, phantomNextDoor, twoOpenAreEnough, takesShortScans, phantomBreaksRow, passedOverBreaksRow, handlesFirstScanOnly, deafWhileReplyWaits, deafWhileFull, queueOf15, sendsNothing, repeatGoesOnAfterRelease, repeatsOverrun}
 use Rattle.wrong_docks.specs.AtSwaps.{keepsHeldKeys, forgetsHeldKeys, dropsReleases, swapOverruns, handsWhenEmpty, deafAfterSwap, keepsOldMap, keepsHistory, keepsRepeating, swapClearsQueue, secondSwapIgnored, secondSwapEndsHandover, takesDoubles}
-use Rattle.wrong_docks.specs.AtFrames.{deafAfterIdentify, defaultKeepsTheSet, defaultForgetsHistory, enableForgetsHistory, disableKeepsScanning, indicatorsClear, setNotChosen, wrongValueEndsWait, resendEndsWait, brokenEndsWait, efLeavesWait, resetLosesMap, resetKeepsScanningOff, resetKeepsHistory, framesLeaveHandover, anyParity}
+use Rattle.wrong_docks.specs.AtFrames.{deafAfterIdentify, defaultKeepsTheSet, defaultForgetsHistory, enableForgetsHistory, disableKeepsScanning, indicatorsClear, setNotChosen, questionChooses, questionLeavesWait, wrongValueEndsWait, resendEndsWait, brokenEndsWait, efLeavesWait, resetLosesMap, resetKeepsScanningOff, resetKeepsHistory, framesLeaveHandover, anyParity}
 use Rattle.wrong_docks.specs.AtReads.{readsNothing, oneConstantByte, oneWrongByte}
 use Rattle.wrong_docks.specs.Listed.{twoPressed, swappedPlaces, fifteen, wrongDocks}
 
@@ -128,7 +128,7 @@ unfolding
     sends queuedOf
     pressed releasedWith released moved turned turnsTo delayOf intervalOf repeated handedFrom
     parity packedOf whole unpackedOf
-    obeyed replyTo commanded rightValue valued tookValue tookByte
+    obeyed replyTo commanded askedOf valued tookByte
     isIn hasDouble
     closing listening isCounted counting changed repeating heardScan scanned scanOf opened remapped swapped swapOf tookFrame
     frameOf remembering replyTaken keyByteTaken read readOf
@@ -137,7 +137,7 @@ unfolding
     moveBytes turnBytesAt turnBytes
     begun hears
     clears isClearing atPowerOn isCountedBy sawScan isMap sawSwap scanningAfter waitingAfter setAfter sawByte
-    oneOf numbersFrom inCommon sharesTwo looksPhantom setThreeCodes valuesFor waitsForValue lowestFrom findsNoRoom keyLeft
+    oneOf numbersFrom inCommon sharesTwo looksPhantom setThreeCodes sets valuesFor waitsForValue lowestFrom findsNoRoom keyLeft
     woken next afterCalls noneHeldFrom mayBegin turningBytes
     overruns undisturbed endOf host nothing showing showingToo twelve
     saysHeldFrom saysHeld
@@ -149,7 +149,7 @@ unfolding
     swapOverruns handsWhenEmpty deafAfterSwap keepsOldMap keepsHistory
     keepsRepeating swapClearsQueue secondSwapIgnored secondSwapEndsHandover takesDoubles
     deafAfterIdentify defaultKeepsTheSet defaultForgetsHistory enableForgetsHistory disableKeepsScanning
-    indicatorsClear setNotChosen wrongValueEndsWait resendEndsWait brokenEndsWait
+    indicatorsClear setNotChosen questionChooses questionLeavesWait wrongValueEndsWait resendEndsWait brokenEndsWait
     efLeavesWait resetLosesMap resetKeepsScanningOff resetKeepsHistory framesLeaveHandover
     anyParity readsNothing oneConstantByte oneWrongByte
 all-break = refl

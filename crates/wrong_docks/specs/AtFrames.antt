@@ -4,12 +4,13 @@ use mathlib.Core.Bool.{true, false}
 use mathlib.Core.List.{[]}
 use lib.Dec.{eqb, leb}
 use Rattle.basics.specs.Choice.{pick, both}
+use Rattle.commands.specs.Commands.{withSet}
 use Rattle.contacts.specs.Counts.{unseen}
 use Rattle.dock.specs.Frame.{frameOf}
 use Rattle.frames.specs.Frames.{packedOf}
 use Rattle.queue.specs.Queues.{waiting, queueOf}
 use Rattle.record.specs.Views.{withQueue, keysOf, contactsOf}
-use Rattle.record.specs.Parts.{withWaiting, withMode, withContacts, withScanning, withKeys, withMap, withHandover}
+use Rattle.record.specs.Parts.{withWaiting, withContacts, withScanning, withKeys, withMap, withHandover}
 use Rattle.record.specs.Power.{plainMap}
 use Rattle.record.specs.declared.Dock.{Dock}
 use Rattle.runs.specs.Machines.{Machine}
@@ -19,13 +20,19 @@ use Rattle.wrong_docks.specs.Docks.{framingBy}
 abbrev pub atByte : ℕ → (Dock → Dock → Dock) → Machine
 atByte byte f = framingBy (λ (d : Dock) (number : ℕ). let e = frameOf d number .dock in pick (eqb number (packedOf byte)) (f d e) e)
 
+-- One value of a command is: likewise.
+abbrev pub atValue : ℕ → ℕ → (Dock → Dock → Dock) → Machine
+atValue command value f =
+    framingBy (λ (d : Dock) (number : ℕ).
+    let e = frameOf d number .dock in pick (both (eqb number (packedOf value)) (eqb (d .rest .waiting) command)) (f d e) e)
+
 -- Deaf after F2: it waits for a value, as ED does.
 unfoldable pub deafAfterIdentify : Machine
 deafAfterIdentify = atByte 0xf2 (λ d e. withWaiting e 0xed)
 
 -- A dock with the set of another.
 abbrev pub withSetOf : Dock → Dock → Dock
-withSetOf d e = withMode e (record { set = d .rest .mode .set; rate = e .rest .mode .rate; indicators = e .rest .mode .indicators })
+withSetOf d e = withSet (d .rest .mode .set) e
 
 -- F6 keeps the set,
 unfoldable pub defaultKeepsTheSet : Machine
@@ -51,11 +58,17 @@ indicatorsClear = atByte 0xed (λ d e. withKeys e (withQueue (keysOf e) (queueOf
 unfoldable pub setNotChosen : Machine
 setNotChosen = framingBy (λ (d : Dock) (number : ℕ). let e = frameOf d number .dock in pick (eqb (d .rest .waiting) 0xf0) (withSetOf d e) e)
 
+-- The question which set is in use chooses one,
+unfoldable pub questionChooses : Machine
+questionChooses = atValue 0xf0 0 (λ d e. withSet 1 e)
+
+-- or leaves F0 waiting.
+unfoldable pub questionLeavesWait : Machine
+questionLeavesWait = atValue 0xf0 0 (λ d e. withWaiting e 0xf0)
+
 -- A wrong value ends the wait for the right one,
 unfoldable pub wrongValueEndsWait : Machine
-wrongValueEndsWait =
-    framingBy (λ (d : Dock) (number : ℕ).
-    let e = frameOf d number .dock in pick (both (eqb number (packedOf 0x80)) (eqb (d .rest .waiting) 0xf3)) (withWaiting e 0) e)
+wrongValueEndsWait = atValue 0xf3 0x80 (λ d e. withWaiting e 0)
 
 -- FE does,
 unfoldable pub resendEndsWait : Machine

@@ -11,7 +11,7 @@ use Rattle.runs.specs.Told.{twelve}
 use Rattle.wrong_docks.specs.Breaking.{Wrong, wrong}
 use Rattle.wrong_docks.specs.AtScans.{countsWhileCommandWaits, countsWhileScanningOff, countsDuringHandover, countsPhantoms, countsTwice, phantomNextDoor, twoOpenAreEnough, takesShortScans, phantomBreaksRow, passedOverBreaksRow, handlesFirstScanOnly, deafWhileReplyWaits, deafWhileFull, queueOf15, sendsNothing, repeatGoesOnAfterRelease, repeatsOverrun}
 use Rattle.wrong_docks.specs.AtSwaps.{keepsHeldKeys, forgetsHeldKeys, dropsReleases, swapOverruns, handsWhenEmpty, deafAfterSwap, keepsOldMap, keepsHistory, keepsRepeating, swapClearsQueue, secondSwapIgnored, secondSwapEndsHandover, takesDoubles}
-use Rattle.wrong_docks.specs.AtFrames.{deafAfterIdentify, defaultKeepsTheSet, defaultForgetsHistory, enableForgetsHistory, disableKeepsScanning, indicatorsClear, setNotChosen, wrongValueEndsWait, resendEndsWait, brokenEndsWait, efLeavesWait, resetLosesMap, resetKeepsScanningOff, resetKeepsHistory, framesLeaveHandover, anyParity}
+use Rattle.wrong_docks.specs.AtFrames.{deafAfterIdentify, defaultKeepsTheSet, defaultForgetsHistory, enableForgetsHistory, disableKeepsScanning, indicatorsClear, setNotChosen, questionChooses, questionLeavesWait, wrongValueEndsWait, resendEndsWait, brokenEndsWait, efLeavesWait, resetLosesMap, resetKeepsScanningOff, resetKeepsHistory, framesLeaveHandover, anyParity}
 use Rattle.wrong_docks.specs.AtReads.{readsNothing, oneConstantByte, oneWrongByte}
 
 -- The 2 is held down for three scans, and its code is read.
@@ -72,6 +72,8 @@ wrongDocks =
     wrong disableKeepsScanning (reads 1 ++ host 0xf5) twoPressed 3 ∷
     wrong indicatorsClear (reads 1) (scans 3 (showing 0 4) ++ Frame (packedOf 0xed) ∷ host 0 ++ reads 1) 3 ∷
     wrong setNotChosen (reads 1 ++ host 0xf0 ++ host 1) twoPressed 3 ∷
+    wrong questionChooses (reads 1 ++ host 0xf0 ++ host 0 ++ reads 1) twoPressed 3 ∷
+    wrong questionLeavesWait (reads 1 ++ host 0xf0 ++ host 0 ++ reads 1) twoPressed 3 ∷
     wrong wrongValueEndsWait (reads 1) (host 0xf3 ++ host 0x80 ++ twoPressed) 3 ∷
     wrong resendEndsWait (reads 1) (host 0xf3 ++ host 0xfe ++ twoPressed) 3 ∷
     wrong brokenEndsWait (reads 1) (host 0xf3 ++ Frame 0 ∷ reads 1 ++ twoPressed) 3 ∷
