@@ -31,11 +31,11 @@ use Rattle.agreement.proofs.Bounds.{Steady, closing-replies, next-stead
 use Rattle.agreement.proofs.Giving.{read-gives, read-leaves}
 
 -- The worlds after F0, after 00, and after a read.
-abbrev chosen : World → World
-chosen w = next ours w (Frame (packedOf 0xf0))
+abbrev afterF0 : World → World
+afterF0 w = next ours w (Frame (packedOf 0xf0))
 
 abbrev pub asked : World → World
-asked w = next ours (chosen w) (Frame (packedOf 0))
+asked w = next ours (afterF0 w) (Frame (packedOf 0))
 
 abbrev pub readOnce : World → World
 readOnce w = next ours w Read
@@ -68,51 +68,51 @@ none-chosen command byte set = rw (both-false (eqb command 0xf0))
 
 module _ (w : World) (s : Steady w) where
   -- F0 waits for its value, and the set is as it was.
-  choosing : Steady (chosen w)
-  choosing = next-steady w (Frame (packedOf 0xf0)) s
+  f0-steady : Steady (afterF0 w)
+  f0-steady = next-steady w (Frame (packedOf 0xf0)) s
 
-  waits : chosen w .onlooker .waiting ≡ 0xf0
+  waits : afterF0 w .onlooker .waiting ≡ 0xf0
   unfolding sawByte waitingAfter waitsForValue oneOf numbersFrom
   waits = ap (λ (o : Onlooker). o .waiting) (heard w 0xf0 (omega arith))
 
-  stays : chosen w .onlooker .set ≡ w .onlooker .set
+  stays : afterF0 w .onlooker .set ≡ w .onlooker .set
   unfolding sawByte setAfter sets oneOf numbersFrom
   stays = ap (λ (o : Onlooker). o .set) (heard w 0xf0 (omega arith)) ∙ none-chosen (w .onlooker .waiting) 0xf0 (w .onlooker .set)
 
   -- 00 has both answers waiting, and ends the wait.
-  answering : Steady (asked w)
-  answering = next-steady (chosen w) (Frame (packedOf 0)) choosing
+  asked-steady : Steady (asked w)
+  asked-steady = next-steady (afterF0 w) (Frame (packedOf 0)) f0-steady
 
   replies : waitingReplies (asked w .dock .rest .replies) ≡ 0xfa ∷ w .onlooker .set ∷ []
   unfolding next
   replies =
-      let d = chosen w .dock in
-      let k = choosing .sound .knows in
-      ap (λ (e : Dock). waitingReplies (e .rest .replies)) (framed d 0 (choosing .sound .range) (omega arith))
+      let d = afterF0 w .dock in
+      let k = f0-steady .sound .knows in
+      ap (λ (e : Dock). waitingReplies (e .rest .replies)) (framed d 0 (f0-steady .sound .range) (omega arith))
       ∙ ap waitingReplies (closing-replies (tookByte 0 d) ∙ which d (k .2 ∙ waits))
       ∙ waiting-repliesOf (0xfa ∷ d .rest .mode .set ∷ []) ∙ ap (λ (set : ℕ). 0xfa ∷ set ∷ []) (k .3 ∙ stays)
 
   over : asked w .onlooker .waiting ≡ 0
   unfolding sawByte waitingAfter valuesFor sets oneOf numbersFrom
-  over = ap (λ (o : Onlooker). o .waiting) (heard (chosen w) 0 (omega arith)) ∙ ap (waitingAfter 0) waits
+  over = ap (λ (o : Onlooker). o .waiting) (heard (afterF0 w) 0 (omega arith)) ∙ ap (waitingAfter 0) waits
 
   still : asked w .onlooker .set ≡ w .onlooker .set
   unfolding sawByte setAfter sets oneOf numbersFrom
   still =
-      ap (λ (o : Onlooker). o .set) (heard (chosen w) 0 (omega arith))
-      ∙ none-chosen (chosen w .onlooker .waiting) 0 (chosen w .onlooker .set) ∙ stays
+      ap (λ (o : Onlooker). o .set) (heard (afterF0 w) 0 (omega arith))
+      ∙ none-chosen (afterF0 w .onlooker .waiting) 0 (afterF0 w .onlooker .set) ∙ stays
 
   told : Told w
   told =
-      let later = next-steady (asked w) Read answering in
+      let later = next-steady (asked w) Read asked-steady in
       let queue = waiting (asked w .dock .rest .outgoing .queue) in
       let then = waiting (readOnce (asked w) .dock .rest .outgoing .queue) in
       record {
-        first = read-gives (asked w) answering ∙ ap (λ (l : List ℕ). foremost l queue) replies;
+        first = read-gives (asked w) asked-steady ∙ ap (λ (l : List ℕ). foremost l queue) replies;
         second = read-gives (readOnce (asked w)) later
-            ∙ ap (λ (l : List ℕ). foremost l then) (read-leaves (asked w) answering ∙ ap (λ (l : List ℕ). drop 1 l) replies);
-        kept = answering .sound .knows .3 ∙ still;
-        ended = answering .sound .knows .2 ∙ over;
+            ∙ ap (λ (l : List ℕ). foremost l then) (read-leaves (asked w) asked-steady ∙ ap (λ (l : List ℕ). drop 1 l) replies);
+        kept = asked-steady .sound .knows .3 ∙ still;
+        ended = asked-steady .sound .knows .2 ∙ over;
       }
 
 -- After any calls since power-on.

@@ -20,7 +20,7 @@ use Rattle.wrong_docks.specs.Docks.{framingBy}
 abbrev pub atByte : ℕ → (Dock → Dock → Dock) → Machine
 atByte byte f = framingBy (λ (d : Dock) (number : ℕ). let e = frameOf d number .dock in pick (eqb number (packedOf byte)) (f d e) e)
 
--- One value of a command is: likewise.
+-- The same of one value, where the command waits for it.
 abbrev pub atValue : ℕ → ℕ → (Dock → Dock → Dock) → Machine
 atValue command value f =
     framingBy (λ (d : Dock) (number : ℕ).
