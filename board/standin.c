@@ -11,7 +11,7 @@
  *     busy                 the host holds the clock low: nothing can be sent to it
  *     ready                it lets it go
  *     interrupt            it will hold it low in the middle of the next frame
- *     glitch PLACE BYTE    a byte of the record is disturbed: place 0 to 584, byte in hexadecimal
+ *     glitch PLACE BYTE    a byte of the record is disturbed: place 0 to 605, byte in hexadecimal
  *     wait TICKS           time goes by, 240 ticks a second; no other event takes any
  *     say WORDS            the words are printed
  *
@@ -96,10 +96,11 @@ static void open_contact(void)
     turn_contact(0);
 }
 
+/* APP is the last key of the plain map: the media keys, which come behind it, are on other panels alone. */
 static void plain_map(void)
 {
     for (int position = 0; position < POSITIONS; position++)
-        outside.map[position] = (uint8_t)(position < KEYDOCK_KEYS ? position + 1 : 0);
+        outside.map[position] = (uint8_t)(position < KEYDOCK_KEY_APP ? position + 1 : 0);
 }
 
 /* Keys up to 255 are let through, as a panel's memory might hold them. */
@@ -160,7 +161,7 @@ static void host_interrupts(void)
 
 static void disturb(void)
 {
-    static const char what[] = "a place, 0 to 584, and a byte, 00 to FF, are wanted";
+    static const char what[] = "a place, 0 to 605, and a byte, 00 to FF, are wanted";
     unsigned long place = number(next_word(), 10, KEYDOCK_RECORD_SIZE - 1, what);
     record.bytes[place] = (uint8_t)number(next_word(), 16, 0xFF, what);
 }

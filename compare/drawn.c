@@ -1,7 +1,5 @@
 #include "drawn.h"
 
-#include <string.h>
-
 /* Chance: splitmix64. */
 
 static uint64_t random_state;
@@ -36,10 +34,20 @@ bool chance(unsigned percent)
 
 /* Maps. */
 
-void make_plain_map(uint8_t map[POSITIONS])
+static void make_map(uint8_t map[POSITIONS], unsigned keys_on_it)
 {
     for (unsigned i = 0; i < POSITIONS; i++)
-        map[i] = i < KEY_COUNT ? (uint8_t)(i + 1) : 0;
+        map[i] = i < keys_on_it ? (uint8_t)(i + 1) : 0;
+}
+
+void make_plain_map(uint8_t map[POSITIONS])
+{
+    make_map(map, KEY_APP);
+}
+
+void make_full_map(uint8_t map[POSITIONS])
+{
+    make_map(map, KEY_COUNT);
 }
 
 static void shuffle(uint8_t *bytes, unsigned count)
@@ -52,17 +60,28 @@ static void shuffle(uint8_t *bytes, unsigned count)
     }
 }
 
+void draw_full_map(uint8_t map[POSITIONS])
+{
+    make_full_map(map);
+    if (chance(60))
+        shuffle(map, POSITIONS);
+}
+
+/* With media keys among the others or without; the last kind has media keys
+ * alone, or none at all. */
 void draw_map(uint8_t map[POSITIONS])
 {
-    make_plain_map(map);
     unsigned kind = below(10);
+    unsigned keys_on_it = chance(50) ? KEY_COUNT : KEY_APP;
+    make_map(map, keys_on_it);
     if (kind >= 3)
-        shuffle(map, kind < 7 ? POSITIONS : KEY_COUNT);
+        shuffle(map, kind < 7 ? POSITIONS : keys_on_it);
     if (kind == 8)
         for (unsigned i = 0; i < POSITIONS; i++)
             map[i] = chance(70) ? 0 : map[i];
     if (kind == 9)
-        memset(map, 0, POSITIONS);
+        for (unsigned i = 0; i < POSITIONS; i++)
+            map[i] = map[i] > KEY_APP ? map[i] : 0;
 }
 
 void draw_wrong_map(uint8_t map[POSITIONS])
@@ -72,13 +91,18 @@ void draw_wrong_map(uint8_t map[POSITIONS])
     draw_map(map);
     if (faults & 1) {
         unsigned place = chance(30) ? POSITIONS - 1 : below(POSITIONS);
-        map[place] = (uint8_t)between(KEY_COUNT + 1, 255);
+        map[place] = chance(40) ? KEY_COUNT + 1 : (uint8_t)between(KEY_COUNT + 1, 255);
     }
     if (faults & 2) {
         unsigned place = below(POSITIONS - 1);
         unsigned other = chance(30) ? POSITIONS - 1 : between(place + 1, POSITIONS - 1);
         map[place] = map[other] = (uint8_t)between(1, KEY_COUNT);
     }
+}
+
+unsigned draw_media_key(void)
+{
+    return between(KEY_APP + 1, KEY_COUNT);
 }
 
 /* Host bytes. */

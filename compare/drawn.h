@@ -20,10 +20,15 @@ unsigned below(unsigned bound);
 unsigned between(unsigned low, unsigned high); /* both of them included */
 bool chance(unsigned percent);
 
-/* Panel maps. A wrong one has a number that is no key's, a key twice, or both. */
+/* Panel maps. The plain one has all keys but the media keys, the full one has
+ * all. A wrong one has a number that is no key's, a key twice, or both. */
 void make_plain_map(uint8_t map[POSITIONS]);
+void make_full_map(uint8_t map[POSITIONS]);
+void draw_full_map(uint8_t map[POSITIONS]); /* all keys, in any order */
 void draw_map(uint8_t map[POSITIONS]);
 void draw_wrong_map(uint8_t map[POSITIONS]);
+
+unsigned draw_media_key(void);
 
 /* Host bytes: the frame of one, and a command that takes a value. */
 unsigned frame_of(unsigned byte);

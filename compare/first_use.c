@@ -214,7 +214,8 @@ static void try_wrong_calls(void)
     expect(keydock_swap(&dock, sizeof dock, map, KEYDOCK_MAP_SIZE + 1) == KEYDOCK_REFUSED_MAP_LENGTH, "a long map");
     expect(keydock_swap(&dock, sizeof dock, NULL, 0) == KEYDOCK_REFUSED_MAP_LENGTH, "no map");
     map[0] = map[1] = KEYDOCK_KEY_A;
-    expect(keydock_swap(&dock, sizeof dock, map, KEYDOCK_MAP_SIZE) == KEYDOCK_REFUSED_MAP_ENTRY, "key 105, beside a double");
+    expect(keydock_swap(&dock, sizeof dock, map, KEYDOCK_MAP_SIZE) == KEYDOCK_REFUSED_MAP_ENTRY,
+           "a number past the last key, beside a double");
     map[5] = KEYDOCK_KEYS;
     expect(keydock_swap(&dock, sizeof dock, map, KEYDOCK_MAP_SIZE) == KEYDOCK_REFUSED_MAP_DOUBLE, "a key twice");
     expect(keydock_frame(&dock, sizeof dock, KEYDOCK_FRAME_MAX + 1) == KEYDOCK_REFUSED_FRAME, "2048 is no frame");
@@ -274,6 +275,25 @@ static void try_codes(void)
            "a Make/Break key does not repeat in set 3");
 }
 
+/* Keys behind APP have codes in sets 1 and 2 alone. */
+static void try_media_keys(void)
+{
+    static const uint8_t mute_up[] = {0xE0, 0xF0, 0x23};
+    uint8_t bytes[ROOM];
+    fill(bytes);
+    for (uint32_t key = KEYDOCK_KEY_APP + 1; key <= KEYDOCK_KEYS; key++)
+        for (uint32_t event = KEYDOCK_PRESS; event <= KEYDOCK_REPEAT; event++)
+            for (uint32_t type = 0; type < 4; type++)
+                expect(keydock_key_codes(3, key, event, type, 63, 1, bytes, ROOM) == 0,
+                       "a media key sends nothing in set 3");
+    expect(keydock_key_codes(3, KEYDOCK_KEYS, KEYDOCK_PRESS, KEYDOCK_TYPE_MAKE, 0, 0, bytes,
+                             KEYDOCK_CODES_MAX - 1) == KEYDOCK_REFUSED_OUTPUT, "a short output is refused");
+    expect(marked(bytes, 0), "and nothing is written");
+    int32_t count = keydock_key_codes(2, KEYDOCK_KEY_MUTE, KEYDOCK_RELEASE, KEYDOCK_TYPE_MAKE,
+                                      KEYDOCK_HELD_SHIFT_LEFT, 1, bytes, ROOM);
+    expect(count == 3 && memcmp(bytes, mute_up, sizeof mute_up) == 0, "MUTE heeds no SHIFT, no Num Lock");
+}
+
 /* The first and last name of each row of keys, with the last byte of its code in set 2 as any
  * table of PS/2 keyboards has it. */
 static void try_names(void)
@@ -285,20 +305,22 @@ static void try_names(void)
         {KEYDOCK_KEY_CTRL_RIGHT, 0x14}, {KEYDOCK_KEY_INS, 0x70}, {KEYDOCK_KEY_RIGHT, 0x74},
         {KEYDOCK_KEY_NUM, 0x77}, {KEYDOCK_KEY_PAD_DEL, 0x71}, {KEYDOCK_KEY_PAD_0, 0x70},
         {KEYDOCK_KEY_PAD_9, 0x7D}, {KEYDOCK_KEY_ESC, 0x76}, {KEYDOCK_KEY_F12, 0x07},
-        {KEYDOCK_KEY_PRINT, 0x7C}, {KEYDOCK_KEY_APP, 0x2F}};
+        {KEYDOCK_KEY_PRINT, 0x7C}, {KEYDOCK_KEY_APP, 0x2F}, {KEYDOCK_KEY_WWW_BACK, 0x38},
+        {KEYDOCK_KEY_WEB_HOME, 0x3A}, {KEYDOCK_KEY_MAIL, 0x48}, {KEYDOCK_KEY_CALCULATOR, 0x2B},
+        {KEYDOCK_KEY_POWER, 0x37}, {KEYDOCK_KEY_WAKE_UP, 0x5E}};
     uint8_t bytes[ROOM];
     for (size_t i = 0; i < sizeof rows / sizeof rows[0]; i++) {
         int32_t count = keydock_key_codes(2, rows[i].key, KEYDOCK_PRESS, KEYDOCK_TYPE_MAKE, 0, 0, bytes, ROOM);
         expect(count > 0 && bytes[count - 1] == rows[i].code, "a name stands for its key");
     }
-    expect(KEYDOCK_KEY_APP == KEYDOCK_KEYS, "APP is the last key");
+    expect(KEYDOCK_KEY_WAKE_UP == KEYDOCK_KEYS, "WAKE-UP is the last key");
 }
 
 /* Each argument out of its range by itself, and outputs that are too short. */
 static void try_refusals(void)
 {
     static const uint32_t wrong[][6] = {{0, 30, 0, 0, 0, 0},  {4, 30, 0, 0, 0, 0},  {2, 0, 0, 0, 0, 0},
-                                        {2, 105, 0, 0, 0, 0}, {2, 30, 3, 0, 0, 0},  {2, 30, 0, 4, 0, 0},
+                                        {2, 126, 0, 0, 0, 0}, {2, 30, 3, 0, 0, 0},  {2, 30, 0, 4, 0, 0},
                                         {2, 30, 0, 0, 64, 0}, {2, 30, 0, 0, 0, 2}, {UINT32_MAX, 30, 0, 0, 0, 0}};
     uint8_t bytes[ROOM];
     fill(bytes);
@@ -349,7 +371,9 @@ static void try_reading(void)
                                                   KEYDOCK_HELD_SHIFT_LEFT + KEYDOCK_HELD_SHIFT_RIGHT, 0,
                                                   bytes, sizeof bytes);
                 unsigned read = event_of(set, bytes, count, &found);
-                if (key == KEYDOCK_KEY_PAUSE && (set < 3 || event == KEYDOCK_REPEAT))
+                if (key > KEYDOCK_KEY_APP && set == 3)
+                    expect(read == KEYDOCK_READ_MORE && found == 0, "a media key is not heard in set 3");
+                else if (key == KEYDOCK_KEY_PAUSE && (set < 3 || event == KEYDOCK_REPEAT))
                     expect(read == (event == KEYDOCK_PRESS ? KEYDOCK_READ_PAUSE : KEYDOCK_READ_MORE) && found == 0,
                            "PAUSE is struck by its press alone");
                 else
@@ -357,6 +381,8 @@ static void try_reading(void)
             }
     expect(KEYDOCK_FOUND_EVENT(keydock_read_byte(1, KEYDOCK_STATE_START, 0xFF)) == KEYDOCK_READ_OVERRUN, "FF in set 1");
     expect(KEYDOCK_FOUND_EVENT(keydock_read_byte(2, KEYDOCK_STATE_START, 0xFF)) == KEYDOCK_READ_UNKNOWN, "FF in set 2");
+    expect(KEYDOCK_FOUND_EVENT(keydock_read_byte(3, KEYDOCK_STATE_START, 0x00)) == KEYDOCK_READ_OVERRUN,
+           "00 in set 3");
     expect(keydock_read_byte(2, KEYDOCK_STATE_MAX, 0) >= 0, "the last state is one");
     expect(keydock_read_byte(0, KEYDOCK_STATE_MAX + 1, 0) == KEYDOCK_REFUSED_STATE, "a state past the last");
     expect(keydock_read_byte(0, KEYDOCK_STATE_START, 0) == KEYDOCK_REFUSED_CHOICE, "set 0");
@@ -395,7 +421,7 @@ static void use_a_dock(uint64_t *sum)
         uint8_t columns[KEYDOCK_SCAN_SIZE] = {0}, map[KEYDOCK_MAP_SIZE];
         mix(&made_up, (uint64_t)i);
         unsigned chance = (unsigned)(made_up >> 56), number = (unsigned)(made_up >> 40 & 0xFFF);
-        map_with(map, number % KEYDOCK_MAP_SIZE, (uint8_t)chance);
+        map_with(map, number % KEYDOCK_MAP_SIZE, (uint8_t)(4 * chance + number % 4));
         columns[number % 3] = (uint8_t)(made_up >> 60);
         mix(sum, (uint64_t)keydock_scan(&dock, sizeof dock, columns, i % 64 != 0 ? sizeof columns : 0));
         mix(sum, (uint64_t)keydock_scan(&dock, sizeof dock, columns, sizeof columns));
@@ -413,7 +439,7 @@ static void use_a_dock(uint64_t *sum)
 }
 
 /* Every answer of every function, mixed into the one number that is lent. The choices are the digits of
- * one count, which begins with set 0 and key 0. */
+ * one count, which begins with set 0 and key 0; the last key is one too many. */
 static void *ask_everything(void *lent)
 {
     uint64_t sum = 0;
@@ -421,10 +447,11 @@ static void *ask_everything(void *lent)
         mix(&sum, keydock_pack_frame((uint8_t)i));
         mix(&sum, (uint64_t)keydock_unpack_frame(i));
     }
-    for (uint32_t i = 0; i < 4u * 105 * 3 * 4 * 64 * 2; i++) {
+    const uint32_t keys = KEYDOCK_KEYS + 2;
+    for (uint32_t i = 0; i < 4 * keys * 3 * 4 * 64 * 2; i++) {
         uint8_t bytes[KEYDOCK_CODES_MAX] = {0};
-        mix(&sum, (uint64_t)keydock_key_codes(i / 161280 % 4, i / 1536 % 105, i / 512 % 3, i / 128 % 4, i / 2 % 64, i % 2,
-                                              bytes, sizeof bytes));
+        mix(&sum, (uint64_t)keydock_key_codes(i / 1536 / keys % 4, i / 1536 % keys, i / 512 % 3, i / 128 % 4,
+                                              i / 2 % 64, i % 2, bytes, sizeof bytes));
         for (size_t j = 0; j < sizeof bytes; j++)
             mix(&sum, bytes[j]);
     }
@@ -464,6 +491,7 @@ int main(void)
     try_wrong_calls();
     try_frames();
     try_codes();
+    try_media_keys();
     try_names();
     try_refusals();
     try_reading();

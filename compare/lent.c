@@ -3,9 +3,10 @@
  *
  * The sessions are lines for the bench, each session behind a line `power-on`, and each line is a call.
  * The rest is what no line can ask: rounds of random records; scans, maps and records of every length;
- * wrong maps, frames of up to 32 bits, and records with another byte in each place; and the question
- * which set is in use, behind every byte. What has to hold of a call stands in both.h. Prints how many
- * calls there were of each answer, or the first difference and fails. */
+ * wrong maps, frames of up to 32 bits, and records with another byte in each place; the question which
+ * set is in use, behind every byte; and every key at every length of the queue. What has to hold of a
+ * call stands in both.h. Prints how many calls there were of each answer, or the first difference and
+ * fails. */
 #include <stdio.h>
 #include <stdlib.h>
 #include <string.h>
@@ -180,7 +181,8 @@ static void step_scans(union record *record, const uint8_t scan[COLUMNS], unsign
 }
 
 /* Records that the systematic cases begin with: power-on; a key that repeats; a panel taken away with
- * its keys held, and a command that waits; and two with anything in them, the second none. */
+ * its keys held, some of them media keys, and a command that waits; and two with anything in them, the
+ * second none. */
 enum { BASES = 5 };
 static union record bases[BASES];
 
@@ -192,12 +194,14 @@ static void make_bases(void)
     begin_cases("the first records", "record", "call");
     bytes_are_fixed = true;
     memset(many_closed, 0x10, sizeof many_closed);
-    draw_map(map);
+    make_full_map(map);
     for (unsigned i = 0; i < 3; i++)
         step_both(&bases[i], (struct call){.kind = POWER_ON});
     step_both(&bases[1], (struct call){.kind = READ});
     step_scans(&bases[1], a_closed, 3);
+    step_both(&bases[2], (struct call){.kind = SWAP, .bytes = map, .length = sizeof map});
     step_scans(&bases[2], many_closed, 3);
+    draw_map(map);
     step_both(&bases[2], (struct call){.kind = SWAP, .bytes = map, .length = sizeof map});
     step_both(&bases[2], (struct call){.kind = FRAME, .frame = frame_of(0xED)});
     bytes_are_fixed = false;
@@ -318,7 +322,7 @@ static void compare_wrong_maps(void)
     for (unsigned place = 0; place < POSITIONS; place++)
         for (unsigned other = 0; other < POSITIONS; other++) {
             name_case(place, other);
-            make_plain_map(map);
+            make_full_map(map);
             map[place] = map[other];
             call_both(&bases[0], swap);
             map[(other + 1) % POSITIONS] = (uint8_t)between(KEY_COUNT + 1, 255);
@@ -392,7 +396,7 @@ static void compare_question(const union record *base, uint8_t set, unsigned byt
 }
 
 /* F0, every byte, and the question 00, in each set, with none to three reads behind each frame. Once
- * from a handover, so that key bytes wait at the question; in set 2 it is still open then. */
+ * from a handover, so that key bytes wait at the question; in sets 1 and 2 it is mostly still open then. */
 static void compare_questions(void)
 {
     begin_cases("questions which set is in use", "set", "byte before 00");
@@ -409,7 +413,7 @@ static void compare_questions(void)
  * one call if it is none of those, and every other value every call. */
 static void compare_place(const union record *base, size_t place)
 {
-    static const uint8_t some[] = {0, 1, 2, 3, 4, 7, 103, 104, 105, 128, 200, 255};
+    static const uint8_t some[] = {0, 1, 2, 3, 4, 7, 103, 104, 105, 124, 125, 126, 128, 200, 255};
     bool is_of_map = place < sizeof base->parts.map;
     bool is_any = !is_of_map && place < offsetof(struct lent_record, queue);
     union record record = *base;
@@ -431,6 +435,51 @@ static void compare_places(void)
     for (unsigned base = 1; base < BASES - 1; base++)
         for (size_t place = sizeof bases->parts; place-- > 0;)
             compare_place(&bases[base], place);
+    end_cases();
+}
+
+/* Three scans that show one contact otherwise than it counts. */
+static void turn_contact(union record *record, unsigned position)
+{
+    uint8_t scan[COLUMNS];
+
+    memcpy(scan, record->parts.closed, sizeof scan);
+    scan[position / 8] ^= (uint8_t)(1u << position % 8);
+    step_scans(record, scan, 3);
+}
+
+/* Pressed while A repeats, and released, or held while its panel is taken away; in another set each time
+ * than it was pressed in, and in the same. */
+static void compare_key(unsigned key, unsigned queue_length)
+{
+    uint8_t map[POSITIONS];
+
+    make_full_map(map);
+    for (uint8_t set = 1; set <= 3; set++)
+        for (uint8_t later = 1; later <= 3; later++) {
+            union record record = bases[1];
+            memcpy(record.parts.map, map, sizeof map);
+            record.parts.set = set;
+            memset(record.parts.queue, 0, sizeof record.parts.queue);
+            memset(record.parts.queue, 0x1C, queue_length);
+            record.parts.queue_length = (uint8_t)queue_length;
+            name_case(key, queue_length);
+            turn_contact(&record, key - 1);
+            record.parts.set = later;
+            union record swapped = record;
+            turn_contact(&record, key - 1);
+            step_both(&swapped, (struct call){.kind = SWAP, .bytes = map, .length = sizeof map});
+            step_reads(&swapped, 2);
+        }
+}
+
+/* Every key in every set, at every length of the queue. */
+static void compare_keys(void)
+{
+    begin_cases("keys at every length of the queue", "key", "key bytes that wait");
+    for (unsigned key = 1; key <= KEY_COUNT; key++)
+        for (unsigned length = 0; length <= QUEUE_SIZE; length++)
+            compare_key(key, length);
     end_cases();
 }
 
@@ -468,6 +517,7 @@ int main(int count, char **words)
     compare_wrong_maps();
     compare_frames();
     compare_questions();
+    compare_keys();
     print_answers();
     return 0;
 }

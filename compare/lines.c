@@ -114,14 +114,21 @@ unsigned some_modifier_position(void)
     return position_of(modifiers[below(LENGTH(modifiers))]);
 }
 
+unsigned some_media_position(void)
+{
+    return position_of(draw_media_key());
+}
+
 unsigned some_position(void)
 {
-    unsigned which = below(10);
+    unsigned which = below(11);
     if (which < 4)
         return position_of_special(some_special());
     if (which < 6)
         return some_modifier_position();
-    return which < 9 ? below(KEY_COUNT) : below(POSITIONS);
+    if (which < 7)
+        return some_media_position();
+    return which < 10 ? below(KEY_COUNT) : below(POSITIONS);
 }
 
 void move_some_contact(void)
@@ -144,8 +151,23 @@ void lift_all(void)
 void close_many(unsigned count)
 {
     while (count-- > 0) {
-        unsigned column = below(13);
+        unsigned column = below(KEY_COUNT / 8 + 1);
         contacts[column] = (uint8_t)(1u << below(8));
+    }
+}
+
+void close_coded(unsigned count)
+{
+    for (unsigned column = 0; column < COLUMNS && count > 0; column++) {
+        unsigned row = below(8);
+        for (unsigned i = 0; i < 8; i++, row = (row + 1) % 8) {
+            unsigned key = map[8 * column + row];
+            if (key >= 1 && key <= KEY_APP) {
+                set_contact(8 * column + row, true);
+                count--;
+                break;
+            }
+        }
     }
 }
 
@@ -185,6 +207,12 @@ void noisy_scan(void)
 void swap(void)
 {
     draw_map(map);
+    put_bytes(map, POSITIONS);
+}
+
+void swap_to_full(void)
+{
+    draw_full_map(map);
     put_bytes(map, POSITIONS);
 }
 
@@ -273,6 +301,12 @@ void set_type_of(unsigned which)
 {
     host(between(0xFB, 0xFD));
     host(special[which].set3);
+}
+
+void set_type_of_none(void)
+{
+    host(between(0xFB, 0xFD));
+    host(0x00);
 }
 
 void broken_frame(void)

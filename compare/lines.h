@@ -24,10 +24,12 @@ unsigned position_of(unsigned key);
 unsigned some_special(void);
 unsigned position_of_special(unsigned which);
 unsigned some_modifier_position(void);
+unsigned some_media_position(void);
 unsigned some_position(void);
 void set_contact(unsigned position, bool closed);
 void move_some_contact(void);
-void close_many(unsigned count); /* one in a column at most, so that no rectangle arises */
+void close_many(unsigned count);  /* one in a column at most, so that no rectangle arises */
+void close_coded(unsigned count); /* the same, of so many keys with a code in set 3 */
 void open_all(void);
 
 /* Scans: of the contacts as they are, and of others. */
@@ -39,6 +41,7 @@ void noisy_scan(void);          /* every contact at random, mostly a phantom */
 
 /* Another panel. */
 void swap(void);
+void swap_to_full(void); /* with all keys, media keys among them */
 void swap_refused(void); /* its map has a number that is no key's, or a key twice */
 
 /* Host bytes. */
@@ -48,6 +51,7 @@ unsigned some_rate(void);
 void choose_set(void);
 void ask_which_set(void);         /* 00 behind F0, or where it asks nothing */
 void set_type_of(unsigned which); /* of a special key, in set 3 */
+void set_type_of_none(void);      /* of code 00, which no key has */
 void some_host_bytes(void);       /* a command and what may follow it, right or wrong */
 void broken_frame(void);
 

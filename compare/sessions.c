@@ -308,6 +308,112 @@ static void wash_panel(void)
     scans(between(20, 70));
 }
 
+/* Pressed in one set and released in another; no modifier changes its code. */
+static void type_media_key(void)
+{
+    unsigned position = some_media_position();
+    unsigned modifier = some_modifier_position();
+
+    if (chance(40))
+        host_pair(0xED, below(8));
+    if (chance(50))
+        set_contact(modifier, true);
+    set_contact(position, true);
+    scans(between(3, 5));
+    if (chance(50))
+        choose_set();
+    if (chance(30))
+        host(between(0xF7, 0xFA));
+    set_contact(position, false);
+    scans(between(3, 5));
+    set_contact(modifier, false);
+    reads(below(8));
+}
+
+/* It ends the other key's repeat in every set, and repeats itself in two. */
+static void press_media_key_over_repeat(void)
+{
+    unsigned position = some_media_position();
+    unsigned other = position_of(between(1, KEY_COUNT));
+
+    choose_set();
+    if (chance(50))
+        host(0xF7);
+    get_ready();
+    reads_percent = 70;
+    set_contact(other, true);
+    scans(between(3, 75));
+    set_contact(position, true);
+    scans(between(3, 85));
+    set_contact(chance(50) ? other : position, false);
+    scans(between(3, 20));
+    open_all();
+    scans(3);
+}
+
+/* In set 3 it sends nothing, which fits into a full queue too. No key sends a
+ * release here, so that the queue can be filled to its last place. */
+static void press_media_key_at_full_queue(void)
+{
+    reads_percent = 0;
+    host_pair(0xF0, 3);
+    host(0xF7);
+    lift_all();
+    close_coded(12);
+    scans(3);
+    lift_all();
+    close_coded(between(3, 5));
+    scans(3);
+    set_contact(some_media_position(), true);
+    scans(between(3, 5));
+    if (chance(40)) {
+        swap_to_full();
+        scans(between(3, 5));
+    }
+    reads(between(8, 20));
+}
+
+/* Perhaps in another set than they were pressed in. A second swap would show
+ * which of them the first has left behind. */
+static void swap_with_media_keys_held(void)
+{
+    for (unsigned i = between(1, 3); i > 0; i--)
+        set_contact(some_media_position(), true);
+    scans(between(3, 5));
+    if (chance(60))
+        choose_set();
+    swap();
+    if (chance(80))
+        open_all();
+    reads(below(10));
+    if (chance(60)) {
+        choose_set();
+        swap_to_full();
+        reads(below(6));
+    }
+}
+
+static void use_media_keys(void)
+{
+    static void (*const scenes[])(void) = {
+        type_media_key, type_media_key, press_media_key_over_repeat, press_media_key_at_full_queue,
+        swap_with_media_keys_held
+    };
+    host(0xF4);
+    for (unsigned i = between(2, 5); i > 0; i--) {
+        if (chance(70))
+            swap_to_full();
+        if (chance(60))
+            choose_set();
+        if (chance(25)) {
+            set_type_of_none();
+            if (chance(85))
+                set_type_of(some_special());
+        }
+        scenes[below(LENGTH(scenes))]();
+    }
+}
+
 static void stop_and_start(void)
 {
     host(0xF5);
@@ -352,8 +458,8 @@ static void choose_mood(void)
 {
     static void (*const moods[])(void) = {
         type_keys, play_chords, hold_key, hold_key, set_types, choose_set, choose_set, ask_for_sets,
-        ask_for_sets, storm, flood, flood, swap_panels, swap_panels, wash_panel, stop_and_start,
-        rattle, noise, refused_or_broken, rest
+        ask_for_sets, storm, flood, flood, swap_panels, swap_panels, wash_panel, use_media_keys,
+        use_media_keys, stop_and_start, rattle, noise, refused_or_broken, rest
     };
     static const unsigned eagerness[] = {0, 10, 50, 100};
     static unsigned weights[LENGTH(moods)];

@@ -64,7 +64,7 @@ extern "C" {
 
 /* The version, as three numbers and as a string with dots between them. */
 #define KEYDOCK_VERSION_MAJOR 1
-#define KEYDOCK_VERSION_MINOR 1
+#define KEYDOCK_VERSION_MINOR 2
 #define KEYDOCK_VERSION_PATCH 0
 #define KEYDOCK_VERSION KEYDOCK_DOTTED(KEYDOCK_VERSION_MAJOR, KEYDOCK_VERSION_MINOR, KEYDOCK_VERSION_PATCH)
 #define KEYDOCK_DOTTED(major, minor, patch) KEYDOCK_QUOTED(major) "." KEYDOCK_QUOTED(minor) "." KEYDOCK_QUOTED(patch)
@@ -74,7 +74,7 @@ extern "C" {
  * and no function gives both: a switch can have a case for one of the two alone. */
 #define KEYDOCK_REFUSED_SCAN_LENGTH (-1) /* a scan that is not 18 bytes */
 #define KEYDOCK_REFUSED_MAP_LENGTH (-2)  /* a map that is not 144 bytes */
-#define KEYDOCK_REFUSED_MAP_ENTRY (-3)   /* a map entry over 104 */
+#define KEYDOCK_REFUSED_MAP_ENTRY (-3)   /* a map entry over 125 */
 #define KEYDOCK_REFUSED_MAP_DOUBLE (-4)  /* a key twice in the map */
 #define KEYDOCK_REFUSED_FRAME (-5)       /* a frame number over 2047 */
 #define KEYDOCK_REFUSED_OUTPUT (-6)      /* a lent output under 8 bytes */
@@ -85,7 +85,7 @@ extern "C" {
 
 /* ---- the dock ---- */
 
-#define KEYDOCK_RECORD_SIZE 585 /* bytes in a record */
+#define KEYDOCK_RECORD_SIZE 606 /* bytes in a record */
 #define KEYDOCK_SCAN_SIZE 18    /* bytes in a scan: one for each column */
 #define KEYDOCK_MAP_SIZE 144    /* bytes in a panel's map: one for each position */
 
@@ -101,8 +101,9 @@ struct keydock {
  * none: of another size, or, power-on excepted, with a part out of its range. All that power-on and the
  * calls leave is a record. */
 
-/* Power-on, from any bytes of the right size: the plain map (key p + 1 at position p for all keys that there
- * are, and none behind them), set 2, nothing held, and AA waits as a reply. 0. */
+/* Power-on, from any bytes of the right size: the plain map (key p + 1 at position p for the first 104 keys,
+ * the last of them KEYDOCK_KEY_APP, and none behind them: it has no media key), set 2, nothing held, and AA
+ * waits as a reply. 0. */
 int32_t keydock_power_on(struct keydock *dock, size_t size);
 
 /* One scan of the panel, to be made 240 times a second: byte c is column c, bit r of it row r, 1 for a
@@ -153,7 +154,7 @@ int32_t keydock_unpack_frame(uint32_t frame);
 /* ---- the codes of one key ---- */
 
 #define KEYDOCK_CODES_MAX 8 /* no key sends more bytes at once */
-#define KEYDOCK_KEYS 104    /* keys are numbered from 1 to this, row by row over the keyboard */
+#define KEYDOCK_KEYS 125    /* keys are numbered from 1 to this, row by row, and the media keys come last */
 
 enum {
     KEYDOCK_KEY_GRAVE = 1, KEYDOCK_KEY_1, KEYDOCK_KEY_2, KEYDOCK_KEY_3, KEYDOCK_KEY_4, KEYDOCK_KEY_5,
@@ -180,14 +181,21 @@ enum {
     KEYDOCK_KEY_F6, KEYDOCK_KEY_F7, KEYDOCK_KEY_F8, KEYDOCK_KEY_F9, KEYDOCK_KEY_F10, KEYDOCK_KEY_F11,
     KEYDOCK_KEY_F12,
     KEYDOCK_KEY_PRINT = 99, KEYDOCK_KEY_SCROLL, KEYDOCK_KEY_PAUSE, KEYDOCK_KEY_WIN_LEFT,
-    KEYDOCK_KEY_WIN_RIGHT, KEYDOCK_KEY_APP
+    KEYDOCK_KEY_WIN_RIGHT, KEYDOCK_KEY_APP,
+    /* From here on media keys, which have codes in sets 1 and 2 alone. */
+    KEYDOCK_KEY_WWW_BACK = 105, KEYDOCK_KEY_WWW_FORWARD, KEYDOCK_KEY_WWW_STOP, KEYDOCK_KEY_WWW_REFRESH,
+    KEYDOCK_KEY_WWW_SEARCH, KEYDOCK_KEY_WWW_FAVORITES, KEYDOCK_KEY_WEB_HOME,
+    KEYDOCK_KEY_MAIL = 112, KEYDOCK_KEY_MUTE, KEYDOCK_KEY_VOLUME_DOWN, KEYDOCK_KEY_VOLUME_UP,
+    KEYDOCK_KEY_PLAY_PAUSE, KEYDOCK_KEY_STOP, KEYDOCK_KEY_PRE_TRACK, KEYDOCK_KEY_NEXT_TRACK,
+    KEYDOCK_KEY_MEDIA_SELECT, KEYDOCK_KEY_MY_COMPUTER, KEYDOCK_KEY_CALCULATOR,
+    KEYDOCK_KEY_POWER = 123, KEYDOCK_KEY_SLEEP, KEYDOCK_KEY_WAKE_UP
 };
 
 /* The event of a key: what it does, as keydock_key_codes is asked. */
 enum { KEYDOCK_PRESS = 0, KEYDOCK_RELEASE = 1, KEYDOCK_REPEAT = 2 };
 
 /* A key's type says in set 3 whether it sends a release and whether it repeats; PAUSE never does. In sets 1
- * and 2 it does not matter, but has to be one of these all the same. */
+ * and 2, and of a media key in any set, it does not matter, but has to be one of these all the same. */
 enum {
     KEYDOCK_TYPE_TYPEMATIC = 0,           /* repeats */
     KEYDOCK_TYPE_MAKE_BREAK = 1,          /* sends a release */
@@ -208,7 +216,7 @@ enum {
 
 /* Writes to `out` what a key sends and gives the number of bytes, 0 to 8.
  *   set        1 to 3
- *   key        1 to 104
+ *   key        1 to 125
  *   event      KEYDOCK_PRESS, _RELEASE or _REPEAT
  *   type       KEYDOCK_TYPE_TYPEMATIC .. KEYDOCK_TYPE_TYPEMATIC_MAKE_BREAK
  *   modifiers  0 to 63: KEYDOCK_HELD_.. of those held at the event itself
@@ -216,7 +224,8 @@ enum {
  *   out        `length` bytes that may be written
  *   length     8 or more, even if fewer bytes would do
  * Only the bytes counted by the answer are written, the others keep what they hold. A repeat has none where
- * it is not allowed: of PAUSE, and in set 3 of a type that does not repeat.
+ * it is not allowed: of PAUSE, and in set 3 of a type that does not repeat. A media key has no code in set 3:
+ * no event of it has bytes there, whatever the type.
  * KEYDOCK_REFUSED_CHOICE for an argument out of its range, else KEYDOCK_REFUSED_OUTPUT for a
  * `length` under 8: then nothing is written. */
 int32_t keydock_key_codes(uint32_t set, uint32_t key, uint32_t event, uint32_t type, uint32_t modifiers,

@@ -5,9 +5,15 @@
 #include "keys.h"
 #include "refusals.h"
 
+/* Media keys have none in set 3. */
+static bool has_code(unsigned set, unsigned key)
+{
+    return keys[key].make[set - 1] != 0;
+}
+
 bool can_repeat(unsigned set, unsigned key, unsigned type)
 {
-    if (key == KEY_PAUSE)
+    if (key == KEY_PAUSE || !has_code(set, key))
         return false;
     return set != 3 || type == TYPEMATIC || type == TYPEMATIC_MAKE_BREAK;
 }
@@ -92,7 +98,7 @@ static uint8_t *put_wrapped(uint8_t *end, unsigned set, unsigned code, bool rele
 static uint8_t *put_set3(uint8_t *end, unsigned key, unsigned event, unsigned type)
 {
     bool has_break = type == MAKE_BREAK || type == TYPEMATIC_MAKE_BREAK;
-    if (event == RELEASE && !has_break)
+    if (!has_code(3, key) || (event == RELEASE && !has_break))
         return end;
     return put_code(end, 3, keys[key].make[2], event == RELEASE);
 }

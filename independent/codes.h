@@ -23,12 +23,13 @@ enum {
     MOD_ALL = MOD_SHIFT | MOD_CTRL | MOD_ALT
 };
 
-/* Whether holding this key makes it repeat; the type counts in set 3 only. */
+/* Whether holding this key makes it repeat; the type counts in set 3 only. A
+ * key without a code does not. */
 bool can_repeat(unsigned set, unsigned key, unsigned type);
 
 /* Writes the bytes of an event to out and returns their number, 0 to 8.
- * set 1 to 3, key 1 to 104, event as above, type a set 3 type, modifiers the
- * MOD_ bits held at this moment, num_lock 0 or 1. Nothing is written if an
+ * set 1 to 3, key 1 to KEY_COUNT, event as above, type a set 3 type, modifiers
+ * the MOD_ bits held at this moment, num_lock 0 or 1. Nothing is written if an
  * argument is out of range (-REFUSED_ARGUMENT) or room, the size of out, is
  * below 8 (-REFUSED_ROOM). */
 int encode(unsigned set, unsigned key, unsigned event, unsigned type,

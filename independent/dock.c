@@ -40,10 +40,11 @@ void reset_all_but_map(struct dock *dock)
     *dock = fresh;
 }
 
+/* The panel at power-on has no media keys. */
 void dock_power_on(struct dock *dock)
 {
     for (unsigned position = 0; position < POSITIONS; position++)
-        dock->map[position] = position < KEY_COUNT ? (uint8_t)(position + 1) : 0;
+        dock->map[position] = position < KEY_APP ? (uint8_t)(position + 1) : 0;
     reset_all_but_map(dock);
     dock->replies[0] = 0xAA;
     dock->reply_count = 1;

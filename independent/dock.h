@@ -10,6 +10,8 @@
 #include <stddef.h>
 #include <stdint.h>
 
+#include "keys.h"
+
 enum {
     COLUMNS = 18,
     POSITIONS = 144, /* position 8 * column + row */
@@ -25,14 +27,14 @@ struct columns {
 };
 
 struct dock {
-    uint8_t map[POSITIONS]; /* 0 for no key, or a key: 0 to 104 */
+    uint8_t map[POSITIONS]; /* 0 for no key, or a key: 0 to KEY_COUNT */
 
     struct columns down;  /* contacts that count as closed: any bits */
     struct columns once;  /* read otherwise in the last counted scan: any */
     struct columns twice; /* and in the one before it too: any */
 
-    uint8_t held[13];  /* bit k - 1 for key k: any bits */
-    uint8_t types[27]; /* two bits a key number from 0 on, its set 3 type: any bits */
+    uint8_t held[KEY_COUNT / 8 + 1];  /* bit k - 1 for key k: any bits */
+    uint8_t types[KEY_COUNT / 4 + 1]; /* two bits a key number from 0 on, its set 3 type: any bits */
 
     uint8_t queue[QUEUE_SIZE]; /* a ring of key bytes: any bytes */
     uint8_t queue_head;        /* 0 to 15 */
@@ -48,7 +50,7 @@ struct dock {
     uint8_t scanning;   /* 0 or 1 */
     uint8_t waiting;    /* 0, or ED, F0, F3, FB, FC, FD hex awaiting a value */
     uint8_t handover;   /* 1 while keys of a removed panel are held: 0 or 1 */
-    uint8_t repeating;  /* the key that repeats, or 0: 0 to 104 */
+    uint8_t repeating;  /* the key that repeats, or 0: 0 to KEY_COUNT */
     uint8_t countdown;  /* scans until its next repeat: 0 to 240 */
 };
 

@@ -107,9 +107,34 @@
     ROW(103, 0xE05C, 0xE027, 0x8C, MAKE_BREAK) /* RWIN */               \
     ROW(104, 0xE05D, 0xE02F, 0x8D, MAKE_BREAK) /* APP */
 
-#define BY_KEY(key, set1, set2, set3, type) [key] = {{set1, set2, set3}, type},
+/* Media keys have no code in set 3, and so no type that would tell. */
+#define MEDIA_KEYS(ROW)                          \
+    ROW(105, 0xE06A, 0xE038) /* WWW BACK */      \
+    ROW(106, 0xE069, 0xE030) /* WWW FORWARD */   \
+    ROW(107, 0xE068, 0xE028) /* WWW STOP */      \
+    ROW(108, 0xE067, 0xE020) /* WWW REFRESH */   \
+    ROW(109, 0xE065, 0xE010) /* WWW SEARCH */    \
+    ROW(110, 0xE066, 0xE018) /* WWW FAVORITES */ \
+    ROW(111, 0xE032, 0xE03A) /* WEB/HOME */      \
+    ROW(112, 0xE06C, 0xE048) /* MAIL */          \
+    ROW(113, 0xE020, 0xE023) /* MUTE */          \
+    ROW(114, 0xE02E, 0xE021) /* VOLUME- */       \
+    ROW(115, 0xE030, 0xE032) /* VOLUME+ */       \
+    ROW(116, 0xE022, 0xE034) /* PLAY/PAUSE */    \
+    ROW(117, 0xE024, 0xE03B) /* STOP */          \
+    ROW(118, 0xE010, 0xE015) /* PRE TRACK */     \
+    ROW(119, 0xE019, 0xE04D) /* NEXT TRACK */    \
+    ROW(120, 0xE06D, 0xE050) /* MEDIA SELECT */  \
+    ROW(121, 0xE06B, 0xE040) /* MY COMPUTER */   \
+    ROW(122, 0xE021, 0xE02B) /* CALCULATOR */    \
+    ROW(123, 0xE05E, 0xE037) /* POWER */         \
+    ROW(124, 0xE05F, 0xE03F) /* SLEEP */         \
+    ROW(125, 0xE063, 0xE05E) /* WAKE UP */
 
-const struct key keys[KEY_COUNT + 1] = {KEYS(BY_KEY)};
+#define BY_KEY(key, set1, set2, set3, type) [key] = {{set1, set2, set3}, type},
+#define BY_MEDIA_KEY(key, set1, set2) [key] = {{set1, set2, 0}, TYPEMATIC},
+
+const struct key keys[KEY_COUNT + 1] = {KEYS(BY_KEY) MEDIA_KEYS(BY_MEDIA_KEY)};
 
 const uint8_t pause_set1[6] = {0xE1, 0x1D, 0x45, 0xE1, 0x9D, 0xC5};
 const uint8_t pause_set2[8] = {0xE1, 0x14, 0x77, 0xE1, 0xF0, 0x14, 0xF0, 0x77};
@@ -120,10 +145,12 @@ const uint8_t pause_set2[8] = {0xE1, 0x14, 0x77, 0xE1, 0xF0, 0x14, 0xF0, 0x77};
 #define BY_SET1(key, set1, set2, set3, type) [INDEX(set1)] = key,
 #define BY_SET2(key, set1, set2, set3, type) [INDEX(set2)] = key,
 #define BY_SET3(key, set1, set2, set3, type) [INDEX(set3)] = key,
+#define MEDIA_BY_SET1(key, set1, set2) [INDEX(set1)] = key,
+#define MEDIA_BY_SET2(key, set1, set2) [INDEX(set2)] = key,
 
 static const uint8_t by_code[3][512] = {
-    {KEYS(BY_SET1) [ALT_PRINT_SET1] = KEY_PRINT},
-    {KEYS(BY_SET2) [ALT_PRINT_SET2] = KEY_PRINT},
+    {KEYS(BY_SET1) MEDIA_KEYS(MEDIA_BY_SET1) [ALT_PRINT_SET1] = KEY_PRINT},
+    {KEYS(BY_SET2) MEDIA_KEYS(MEDIA_BY_SET2) [ALT_PRINT_SET2] = KEY_PRINT},
     {KEYS(BY_SET3)},
 };
 

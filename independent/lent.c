@@ -5,7 +5,7 @@
 #include "inside.h"
 #include "refusals.h"
 
-typedef char has_no_gaps[sizeof(struct lent_record) == 585 ? 1 : -1];
+typedef char has_no_gaps[sizeof(struct lent_record) == 606 ? 1 : -1];
 
 /* A record that was taken out of lent bytes, and the dock that it is: as it
  * was taken, and as a call makes it. */

@@ -2,12 +2,14 @@
  * bytes back. It is all that a terminal needs of the dock's codes, over keydock.h.
  *
  *     service key SET KEY press|release|repeat [MODIFIER ..] [num] [type=0..3]
+ *     service keys                 the number and name of each key
  *     service frame BYTE ..        bytes in hexadecimal
  *     service byte FRAME ..        frames in hexadecimal
  *     service read SET BYTE ..     key bytes in hexadecimal
  *
- * MODIFIER is one of lshift rshift lctrl rctrl lalt ralt. Exit status: 0, or 1 if
- * something was refused, or 2 if the words make no sense. */
+ * KEY is a number: names will not do, since those of some keys are numbers, too. MODIFIER is
+ * one of lshift rshift lctrl rctrl lalt ralt. Exit status: 0, or 1 if something was refused,
+ * or 2 if the words make no sense. */
 #include <errno.h>
 #include <stdio.h>
 #include <stdlib.h>
@@ -18,6 +20,7 @@
 static int usage(void)
 {
     fputs("usage: service key SET KEY press|release|repeat [lshift|rshift|lctrl|rctrl|lalt|ralt|num|type=N ..]\n"
+          "       service keys\n"
           "       service frame BYTE ..\n"
           "       service byte FRAME ..\n"
           "       service read SET BYTE ..\n",
@@ -111,6 +114,33 @@ static int show_key(int count, char **words)
     return 0;
 }
 
+/* Names as docs/RULES.md has them. */
+static int show_keys(void)
+{
+    static const char *const names[KEYDOCK_KEYS + 1] = {
+        [KEYDOCK_KEY_GRAVE] = "`", "1", "2", "3", "4", "5", "6", "7", "8", "9", "0", "-", "=", "BACKSPACE",
+        [KEYDOCK_KEY_TAB] = "TAB", "Q", "W", "E", "R", "T", "Y", "U", "I", "O", "P", "[", "]", "\\",
+        [KEYDOCK_KEY_CAPS] = "CAPS", "A", "S", "D", "F", "G", "H", "J", "K", "L", ";", "'", "ENTER",
+        [KEYDOCK_KEY_SHIFT_LEFT] = "SHIFT_L", "Z", "X", "C", "V", "B", "N", "M", ",", ".", "/", "SHIFT_R",
+        [KEYDOCK_KEY_CTRL_LEFT] = "CTRL_L", "ALT_L", "SPACE", "ALT_R", "CTRL_R",
+        [KEYDOCK_KEY_INS] = "INS", "DEL", "HOME", "END", "PAGE-UP", "PAGE-DOWN",
+        [KEYDOCK_KEY_UP] = "UP", "LEFT", "DOWN", "RIGHT",
+        [KEYDOCK_KEY_NUM] = "NUM", "keypad /", "keypad *", "keypad -",
+        [KEYDOCK_KEY_PAD_PLUS] = "keypad +", "keypad ENTER", "keypad DEL",
+        [KEYDOCK_KEY_PAD_0] = "keypad 0", "keypad 1", "keypad 2", "keypad 3", "keypad 4",
+        [KEYDOCK_KEY_PAD_5] = "keypad 5", "keypad 6", "keypad 7", "keypad 8", "keypad 9",
+        [KEYDOCK_KEY_ESC] = "ESC", "F1", "F2", "F3", "F4", "F5", "F6", "F7", "F8", "F9", "F10", "F11", "F12",
+        [KEYDOCK_KEY_PRINT] = "PRINT", "SCROLL", "PAUSE", "LWIN", "RWIN", "APP",
+        [KEYDOCK_KEY_WWW_BACK] = "WWW-BACK", "WWW-FORWARD", "WWW-STOP", "WWW-REFRESH", "WWW-SEARCH",
+        [KEYDOCK_KEY_WWW_FAVORITES] = "WWW-FAVORITES", "WEB/HOME",
+        [KEYDOCK_KEY_MAIL] = "MAIL", "MUTE", "VOLUME-", "VOLUME+", "PLAY/PAUSE", "STOP", "PRE-TRACK",
+        [KEYDOCK_KEY_NEXT_TRACK] = "NEXT-TRACK", "MEDIA-SELECT", "MY-COMPUTER", "CALCULATOR",
+        [KEYDOCK_KEY_POWER] = "POWER", "SLEEP", "WAKE-UP"};
+    for (int key = 1; key <= KEYDOCK_KEYS; key++)
+        printf("%d %s\n", key, names[key]);
+    return 0;
+}
+
 static int show_frames(int count, char **words)
 {
     for (int i = 0; i < count; i++)
@@ -156,6 +186,8 @@ static int show_events(int count, char **words)
 
 int main(int count, char **words)
 {
+    if (count == 2 && strcmp(words[1], "keys") == 0)
+        return show_keys();
     if (count < 3)
         return usage();
     if (strcmp(words[1], "key") == 0)

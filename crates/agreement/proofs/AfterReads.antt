@@ -1,4 +1,4 @@
--- Demand 3 speaks of moments when nothing waits, and they come: after any calls of such a run 851 reads or more bring one, and then the
+-- Demand 3 speaks of moments when nothing waits, and they come: after any calls of such a run 1019 reads or more bring one, and then the
 -- keys that the terminal finds down are exactly those that the counted scans say are held, Pause apart. Assumes nothing.
 use mathlib.Core.Path.{_≡_, refl, ap, _∙_}
 use mathlib.Core.Bool.{Bool, true, not}
@@ -48,7 +48,7 @@ reads-say-the-same zero w key = refl
 reads-say-the-same (suc n) w key = reads-say-the-same n (next ours w Read) key
 
 module _ (earlier calls : List Call) (begins : mayBegin ours (afterCalls ours (woken ours) earlier) ≡ true)
-    (calm : undisturbed ours (beginning (afterCalls ours (woken ours) earlier)) calls ≡ true) (n : ℕ) (enough : 851 ≤ n) where
+    (calm : undisturbed ours (beginning (afterCalls ours (woken ours) earlier)) calls ≡ true) (n : ℕ) (enough : 1019 ≤ n) where
   -- After those reads the premises of demand 3 are met, so that what it says is so.
   pub reads-meet-premises : Premises ours earlier (calls ++ replicate n Read)
   unfolding endOf

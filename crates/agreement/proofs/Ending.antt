@@ -1,5 +1,5 @@
 -- Reads make the dock quiet, and end a handover: while something waits each read leaves less to be read, and where nothing waits it
--- changes nothing, so that from any moment since power-on 851 reads or more leave nothing waiting. Assumes nothing.
+-- changes nothing, so that from any moment since power-on 1019 reads or more leave nothing waiting. Assumes nothing.
 use mathlib.Core.Path.{_≡_, refl, ap}
 use mathlib.Core.Bool.{Bool, true, false}
 use mathlib.Core.List.{List, []}
@@ -118,16 +118,16 @@ reads-all (suc n) w s most = go (quiet (w .dock)) refl (reads-all n (next ours w
     go true e later = stays-quiet (suc n) w s e
     go false e later = later (omega (arith, read-brings-on w s e))
 
--- 851: three replies, 16 key bytes, and eight for each of 104 keys.
-pub enough-reads : (w : World) → Steady w → (n : ℕ) → 851 ≤ n → quiet (afterCalls ours w (replicate n Read) .dock) ≡ true
+-- 1019: three replies, 16 key bytes, and eight for each of 125 keys.
+pub enough-reads : (w : World) → Steady w → (n : ℕ) → 1019 ≤ n → quiet (afterCalls ours w (replicate n Read) .dock) ≡ true
 enough-reads w s n enough = reads-all n w s (omega (arith, keys-few w (s .sound), replies-few w s, held-most lastKey (w .dock .held)))
 
 -- After any calls,
-pub reads-quieten : (calls : List Call) (n : ℕ) → 851 ≤ n → quiet (afterCalls ours (afterCalls ours (woken ours) calls) (replicate n Read) .dock) ≡ true
+pub reads-quieten : (calls : List Call) (n : ℕ) → 1019 ≤ n → quiet (afterCalls ours (afterCalls ours (woken ours) calls) (replicate n Read) .dock) ≡ true
 reads-quieten calls n enough = enough-reads (afterCalls ours (woken ours) calls) (reached-steady calls) n enough
 
 -- so that no handover is left open.
-pub handover-ends : (calls : List Call) (n : ℕ) → 851 ≤ n → afterCalls ours (afterCalls ours (woken ours) calls) (replicate n Read) .dock .rest .handover ≡ false
+pub handover-ends : (calls : List Call) (n : ℕ) → 1019 ≤ n → afterCalls ours (afterCalls ours (woken ours) calls) (replicate n Read) .dock .rest .handover ≡ false
 handover-ends calls n enough =
     let end = afterCalls ours (afterCalls ours (woken ours) calls) (replicate n Read) in
     let sound = any-sound (replicate n Read) (afterCalls ours (woken ours) calls) (reached-steady calls .sound) in

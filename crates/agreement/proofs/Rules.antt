@@ -2,6 +2,7 @@
 -- and the set are his. Assumes nothing.
 use mathlib.Core.Path.{_≡_, refl, sym, ap, ap₂, _∙_}
 use mathlib.Core.Bool.{Bool, true, false, not}
+use mathlib.Core.Logic.{dite}
 use mathlib.Core.List.{List, [], _∷_, map}
 use Prim.Native.Nat.{ℕ, zero, suc, _+_, _*_, _-_, _/_, _%_, _^_, _≤_, _<_}
 use native.Mathlib.Decide.{ℕ-discrete}
@@ -10,10 +11,11 @@ use native.Mathlib.Omega.{arith}
 use borrow.Author.Tests.{eq-eqb, ne-eqb, leb-true, leb-false, le-leb}
 use lib.Bits.{bitAnd, and-shr, and-mod, and-lt}
 use lib.Count.{ones, onesIn}
-use lib.Dec.{eqb, leb}
+use lib.Dec.{T, eqb, leb, eqb→eq}
+use lib.ListN.{take, drop}
 use Rattle.basics.specs.Choice.{pick, both, either, between}
 use Rattle.basics.proofs.Cases.{two-by-cases}
-use Rattle.basics.proofs.Tables.{valuesBelow, alike-below}
+use Rattle.basics.proofs.Tables.{valuesBelow, alike-below, both-left, both-right}
 use Rattle.host.specs.declared.values.Asked.{Asked}
 use Rattle.host.specs.declared.values.Asked.the-variants.{Indicators, Set, WhichSet, Rate, KeyType, Wrong}
 use Rattle.host.specs.Values.{askedOf, isRight}
@@ -103,17 +105,50 @@ unfolding waitsForValue oneOf
 waits-same byte =
     ap (λ (b : Bool). either (eqb byte 0xed) (either (eqb byte 0xf0) (either (eqb byte 0xf3) b))) (among-numbers byte 2 0xfb)
 
--- The codes of set 3 are those that some key has.
-codes-same : (value : ℕ) (rs : List Row) (key : ℕ) → oneOf value (map (λ (r : Row). r .2) rs) ≡ not (eqb (firstWith 3 value (suc key) rs) 0)
-unfolding oneOf firstWith
-codes-same value [] key = refl
-codes-same value (r ∷ rs) key = go (ℕ-discrete value (r .2)) (codes-same value rs (suc key))
+-- None of these rows has a code in set 3, and so none is found there for a code.
+unfoldable uncoded : List Row → Bool
+uncoded [] = true
+uncoded (r ∷ rs) = both (eqb (r .2) 0) (uncoded rs)
+
+none-found : (value : ℕ) → (value ≡ 0 → ⊥) → (rs : List Row) (key : ℕ) → T (uncoded rs) → firstWith 3 value key rs ≡ 0
+unfolding uncoded firstWith
+none-found value some [] key t = refl
+none-found value some (r ∷ rs) key t =
+    let none : r .2 ≡ 0 = eqb→eq (r .2) 0 (both-left (eqb (r .2) 0) (uncoded rs) t) in
+    go (eqb (r .2) value) (ne-eqb (r .2) value (λ e. some (sym e ∙ none)))
+    (none-found value some rs (suc key) (both-right (eqb (r .2) 0) (uncoded rs) t))
   where
-    go : Dec (value ≡ r .2) → oneOf value (map (λ (r : Row). r .2) rs) ≡ not (eqb (firstWith 3 value (suc (suc key)) rs) 0)
-        → either (eqb value (r .2)) (oneOf value (map (λ (r : Row). r .2) rs))
+    go : (own : Bool) → own ≡ false → firstWith 3 value (suc key) rs ≡ 0
+        → _≡_ {A = ℕ} (elim own [ true ↦ key | false ↦ firstWith 3 value (suc key) rs ]) 0
+    go own e later = rw e later
+
+-- The codes of set 3 are those that some key has: the first n rows are those with a code.
+codes-same : (value : ℕ) → (value ≡ 0 → ⊥) → (n : ℕ) (rs : List Row) (key : ℕ) → T (uncoded (drop n rs))
+    → oneOf value (map (λ (r : Row). r .2) (take n rs)) ≡ not (eqb (firstWith 3 value (suc key) rs) 0)
+unfolding oneOf firstWith
+codes-same value some zero rs key t = rw (none-found value some rs (suc key) t)
+codes-same value some (suc n) [] key t = refl
+codes-same value some (suc n) (r ∷ rs) key t = go (ℕ-discrete value (r .2)) (codes-same value some n rs (suc key) t)
+  where
+    go : Dec (value ≡ r .2) → oneOf value (map (λ (r : Row). r .2) (take n rs)) ≡ not (eqb (firstWith 3 value (suc (suc key)) rs) 0)
+        → either (eqb value (r .2)) (oneOf value (map (λ (r : Row). r .2) (take n rs)))
         ≡ not (eqb (elim (eqb (r .2) value) [ true ↦ suc key | false ↦ firstWith 3 value (suc (suc key)) rs ]) 0)
     go (yes e) later = rw (eq-eqb value (r .2) e, eq-eqb (r .2) value (sym e), ne-eqb (suc key) 0 (λ z. omega arith))
     go (no e) later = rw (ne-eqb value (r .2) e, ne-eqb (r .2) value (λ f. e (sym f))) later
+
+media-uncoded : T (uncoded (drop 104 rows))
+unfolding uncoded rows
+media-uncoded = tt
+
+zero-no-code : oneOf 0 (map (λ (r : Row). r .2) (take 104 rows)) ≡ false
+unfolding oneOf rows
+zero-no-code = refl
+
+three-same : (value : ℕ) → oneOf value setThreeCodes ≡ not (eqb (keyWith 3 value) 0)
+unfolding setThreeCodes keyWith
+three-same value =
+    dite (ℕ-discrete value 0) (λ e. rw e zero-no-code)
+    (λ some. rw (ne-eqb value 0 some) (codes-same value some 104 rows 0 media-uncoded))
 
 among-none : (value : ℕ) → oneOf value [] ≡ false
 unfolding oneOf
@@ -126,7 +161,7 @@ sets-same value = among-numbers value 2 1
 
 -- The values that are right.
 pub right-same : (command value : ℕ) → oneOf value (valuesFor command) ≡ isRight (askedOf command value)
-unfolding valuesFor askedOf setThreeCodes keyWith oneOf
+unfolding valuesFor askedOf oneOf
 right-same command value =
     let Right : List ℕ → Asked → Type 0 = λ (l : List ℕ) (asked : Asked). oneOf value l ≡ isRight asked in
     two-by-cases Right (eqb command 0xed) _ _ _ _ (λ h. up-to 7 ∙ sym (right-if (leb value 7) (Indicators value) refl))
@@ -151,7 +186,7 @@ right-same command value =
         go false false = refl
 
     a-code : oneOf value setThreeCodes ≡ isRight (pick (eqb (keyWith 3 value) 0) Wrong (KeyType (keyWith 3 value) (command - 0xfb)))
-    a-code = codes-same value rows 0 ∙ go (eqb (keyWith 3 value) 0)
+    a-code = three-same value ∙ go (eqb (keyWith 3 value) 0)
       where
         go : (none : Bool) → not none ≡ isRight (pick none Wrong (KeyType (keyWith 3 value) (command - 0xfb)))
         go true = refl

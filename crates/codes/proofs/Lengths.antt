@@ -13,7 +13,7 @@ use Rattle.codes.specs.declared.Action.{Action}
 use Rattle.codes.specs.declared.Action.the-variants.{Press, Release, Repeat}
 use Rattle.codes.specs.declared.Form.{Form}
 use Rattle.codes.specs.declared.Form.the-variants.{Plain, ShiftLeft, ShiftRight, ShiftBoth, NumLock, Other}
-use Rattle.codes.specs.Codes.{prefix, makeOf, breakOf, before, after, isOther, pausesAtOnce, pauseBytes, sendsRelease, mayRepeat, codeOf, bytesOf, formOf, encode}
+use Rattle.codes.specs.Codes.{prefix, makeOf, breakOf, before, after, isOther, pausesAtOnce, pauseBytes, sendsRelease, mayRepeat, codeOf, hasCode, bytesOf, formOf, encode}
 use Rattle.codes.proofs.AtOnce.{at-once-set}
 
 abbrev Short : ℕ → List ℕ → Type 0
@@ -81,4 +81,5 @@ bytes-short set key Repeat type form =
 pub encode-short : (set key : ℕ) (action : Action) (type modifiers : ℕ) (lock : Bool)
     → length (encode set key action type modifiers lock) ≤ 8
 unfolding encode
-encode-short set key action type modifiers lock = bytes-short set key action type (formOf set key modifiers lock)
+encode-short set key action type modifiers lock =
+    picked (Short 8) (hasCode set key) _ _ (bytes-short set key action type (formOf set key modifiers lock)) (omega arith)

@@ -1,4 +1,4 @@
--- A key that has one form sends the bytes of its code, whatever modifiers are held. Assumes nothing.
+-- A key that has a code and one form sends the bytes of its code, whatever modifiers are held. Assumes nothing.
 use mathlib.Core.Path.{_≡_}
 use mathlib.Core.Bool.{Bool, true, false}
 use mathlib.Core.List.{[], append-nil}
@@ -13,7 +13,7 @@ use Rattle.codes.specs.declared.Action.{Action}
 use Rattle.codes.specs.declared.Action.the-variants.{Press, Release, Repeat}
 use Rattle.codes.specs.declared.Form.the-variants.{Plain}
 use Rattle.codes.specs.declared.Sequence.{Sequence}
-use Rattle.codes.specs.Codes.{isCursor, isKeypadSlash, isPrint, isPause, makeOf, breakOf, before, after, formOf, hasForms, codeOf, pausesAtOnce, sendsRelease, mayRepeat, bytesOf, encode}
+use Rattle.codes.specs.Codes.{isCursor, isKeypadSlash, isPrint, isPause, makeOf, breakOf, before, after, formOf, hasForms, hasCode, codeOf, pausesAtOnce, sendsRelease, mayRepeat, bytesOf, encode}
 use Rattle.codes.specs.Sequences.{holding}
 use Rattle.codes.proofs.PlainKeys.{no-form}
 
@@ -50,29 +50,29 @@ module _ (set key : ℕ) (one : hasForms set key ≡ false) where
   unfolding codeOf
   code-plain = rw (both-false (isPrint key))
 
-  module _ (type : ℕ) (action : Action) (code : ℕ) (r : Sequence) where
+  module _ (coded : hasCode set key ≡ true) (type : ℕ) (action : Action) (code : ℕ) (r : Sequence) where
     pub one-press : action ≡ Press → code ≡ codeIn set key → r ≡ holding (makeOf code)
         → (modifiers : ℕ) (lock : Bool) → r ≡ holding (encode set key action type modifiers lock)
     unfolding encode bytesOf before
-    one-press a c e modifiers lock = rw (a, ← one-form modifiers lock, not-at-once, code-plain, ← c) e
+    one-press a c e modifiers lock = rw (coded, a, ← one-form modifiers lock, not-at-once, code-plain, ← c) e
 
     pub one-release : action ≡ Release → sendsRelease set type ≡ true → code ≡ codeIn set key → r ≡ holding (breakOf set code)
         → (modifiers : ℕ) (lock : Bool) → r ≡ holding (encode set key action type modifiers lock)
     unfolding encode bytesOf after
-    one-release a s c e modifiers lock = rw (a, ← one-form modifiers lock, not-at-once, s, append-nil, code-plain, ← c) e
+    one-release a s c e modifiers lock = rw (coded, a, ← one-form modifiers lock, not-at-once, s, append-nil, code-plain, ← c) e
 
     pub one-repeat : action ≡ Repeat → mayRepeat set key type ≡ true → code ≡ codeIn set key → r ≡ holding (makeOf code)
         → (modifiers : ℕ) (lock : Bool) → r ≡ holding (encode set key action type modifiers lock)
     unfolding encode bytesOf
-    one-repeat a s c e modifiers lock = rw (a, ← one-form modifiers lock, s, code-plain, ← c) e
+    one-repeat a s c e modifiers lock = rw (coded, a, ← one-form modifiers lock, s, code-plain, ← c) e
 
-  module _ (type : ℕ) (action : Action) (r : Sequence) (e : r ≡ holding []) where
+  module _ (coded : hasCode set key ≡ true) (type : ℕ) (action : Action) (r : Sequence) (e : r ≡ holding []) where
     pub no-release : action ≡ Release → sendsRelease set type ≡ false → (modifiers : ℕ) (lock : Bool)
         → r ≡ holding (encode set key action type modifiers lock)
     unfolding encode bytesOf
-    no-release a s modifiers lock = rw (a, not-at-once, s) e
+    no-release a s modifiers lock = rw (coded, a, not-at-once, s) e
 
     pub no-repeat : action ≡ Repeat → mayRepeat set key type ≡ false → (modifiers : ℕ) (lock : Bool)
         → r ≡ holding (encode set key action type modifiers lock)
     unfolding encode bytesOf
-    no-repeat a s modifiers lock = rw (a, s) e
+    no-repeat a s modifiers lock = rw (coded, a, s) e

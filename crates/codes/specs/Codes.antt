@@ -2,9 +2,9 @@
 use Prim.Native.Nat.{ℕ, _+_, _/_, _%_}
 use mathlib.Core.Bool.{Bool, true, false, not}
 use mathlib.Core.List.{List, [], _∷_, _++_}
-use lib.Dec.{eqb}
+use lib.Dec.{eqb, ltb}
 use Rattle.keys.specs.Keys.{codeIn, altPrint, leftWrap, rightWrap, typematic, makeBreak, typematicMakeBreak}
-use Rattle.keys.specs.Named.{ctrlL, firstCursor, lastCursor, numKey, keypadSlash, printKey, pauseKey}
+use Rattle.keys.specs.Named.{ctrlL, firstCursor, lastCursor, numKey, keypadSlash, printKey, pauseKey, firstMedia}
 use Rattle.codes.specs.declared.Action.{Action}
 use Rattle.codes.specs.declared.Action.the-variants.{Press, Release, Repeat}
 use Rattle.codes.specs.declared.Form.{Form}
@@ -24,6 +24,10 @@ isPrint key = eqb key printKey
 
 abbrev pub isPause : ℕ → Bool
 isPause key = eqb key pauseKey
+
+-- The media keys have no code in set 3; every other key has one in each set.
+abbrev pub hasCode : ℕ → ℕ → Bool
+hasCode set key = either (not (eqb set 3)) (ltb key firstMedia)
 
 -- What goes before a code's last byte: E0 or nothing. A code is the byte that is sent, with 0xe000 added where E0 goes before it.
 unfoldable pub prefix : ℕ → List ℕ
@@ -117,9 +121,10 @@ pauseBytes set form =
 unfoldable pub sendsRelease : ℕ → ℕ → Bool
 sendsRelease set type = either (not (eqb set 3)) (either (eqb type makeBreak) (eqb type typematicMakeBreak))
 
--- PAUSE never repeats; any other key does, in set 3 only by the two Typematic types.
+-- PAUSE never repeats, nor does a key without a code; any other does, in set 3 only by the two Typematic types.
 unfoldable pub mayRepeat : ℕ → ℕ → ℕ → Bool
-mayRepeat set key type = both (not (isPause key)) (either (not (eqb set 3)) (either (eqb type typematic) (eqb type typematicMakeBreak)))
+mayRepeat set key type =
+    both (not (isPause key)) (both (hasCode set key) (either (not (eqb set 3)) (either (eqb type typematic) (eqb type typematicMakeBreak))))
 
 -- The bytes of an action in a form. A repeat leaves all wrapping out.
 unfoldable pub bytesOf : ℕ → ℕ → Action → ℕ → Form → List ℕ
@@ -129,6 +134,6 @@ bytesOf set key Release type form =
     pick (pausesAtOnce set key) [] (pick (sendsRelease set type) (breakOf set (codeOf set key form) ++ after set form) [])
 bytesOf set key Repeat type form = pick (mayRepeat set key type) (makeOf (codeOf set key form)) []
 
--- The bytes that an action of a key sends.
+-- The bytes that an action of a key sends: none where it has no code.
 unfoldable pub encode : ℕ → ℕ → Action → ℕ → ℕ → Bool → List ℕ
-encode set key action type modifiers lock = bytesOf set key action type (formOf set key modifiers lock)
+encode set key action type modifiers lock = pick (hasCode set key) (bytesOf set key action type (formOf set key modifiers lock)) []

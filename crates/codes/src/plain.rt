@@ -3,6 +3,7 @@ use crate::Action;
 use crate::Sequence;
 use crate::bytes::empty;
 use crate::rows::code_in;
+use crate::rows::has_code;
 use crate::rows::may_repeat;
 use crate::rows::sends_release;
 use keys::Table;
@@ -67,6 +68,9 @@ pub fn plain_sequence(table: &Table, set: u8, key: u8, action: Action, kind: u8)
     requires { ⌜ record { laid : now table ≡ laidOut; plain : hasForms set key ≡ false } ⌝ }
     ensures { λ r. ⌜ ((modifiers : ℕ) (lock : Bool) → r ≡ holding (encode set key action kind modifiers lock)) ⌝ }
 {
+    if !has_code(set, key) {
+        return empty();
+    }
     match action {
         Action::Press => make_of(code_in(table, set, key)),
         Action::Release => {

@@ -13,7 +13,7 @@ pub enum Answer {
     ScanLength,
     // 2: a map that is not 144 bytes
     MapLength,
-    // 3: a map entry over 104
+    // 3: a map entry over 125
     MapEntry,
     // 4: a key twice in the map
     MapDouble,

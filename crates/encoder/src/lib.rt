@@ -63,7 +63,7 @@ fn write(sequence: Sequence, out: &mut [u8])
     }
 }
 
-// The bytes of a key: set 1 to 3, key 1 to 104, event 0 press, 1 release, 2 repeat, type 0 to 3, modifiers 0 to 63, Num Lock 0 or 1.
+// The bytes of a key: set 1 to 3, key 1 to 125, event 0 press, 1 release, 2 repeat, type 0 to 3, modifiers 0 to 63, Num Lock 0 or 1.
 pub fn encode(
     set: u32,
     key: u32,

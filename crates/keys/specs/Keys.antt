@@ -24,13 +24,21 @@ typematicMakeBreak = 3
 abbrev pub row : ℕ → ℕ → ℕ → ℕ → Row
 row one two three type = (one, two, three, type)
 
+-- What stands for the code of a key in a set that has none for it.
+abbrev pub noCode : ℕ
+noCode = 0
+
+-- The row of a media key: it has no code in set 3, and no type, which tells only there; 0 stands for that as well.
+abbrev pub media : ℕ → ℕ → Row
+media one two = row one two noCode 0
+
 -- What stands for a number that is no key.
 abbrev pub noRow : Row
 noRow = row 0 0 0 0
 
 -- Keys are numbered from 1 to this.
 abbrev pub lastKey : ℕ
-lastKey = 104
+lastKey = 125
 
 -- The rows of all keys, key 1 first.
 unfoldable pub rows : List Row
@@ -139,6 +147,27 @@ rows =
     row 0xe05b 0xe01f 0x8b makeBreak ∷  -- 102 LWIN
     row 0xe05c 0xe027 0x8c makeBreak ∷  -- 103 RWIN
     row 0xe05d 0xe02f 0x8d makeBreak ∷  -- 104 APP
+    media 0xe06a 0xe038 ∷  -- 105 WWW-BACK
+    media 0xe069 0xe030 ∷  -- 106 WWW-FORWARD
+    media 0xe068 0xe028 ∷  -- 107 WWW-STOP
+    media 0xe067 0xe020 ∷  -- 108 WWW-REFRESH
+    media 0xe065 0xe010 ∷  -- 109 WWW-SEARCH
+    media 0xe066 0xe018 ∷  -- 110 WWW-FAVORITES
+    media 0xe032 0xe03a ∷  -- 111 WEB/HOME
+    media 0xe06c 0xe048 ∷  -- 112 MAIL
+    media 0xe020 0xe023 ∷  -- 113 MUTE
+    media 0xe02e 0xe021 ∷  -- 114 VOLUME-
+    media 0xe030 0xe032 ∷  -- 115 VOLUME+
+    media 0xe022 0xe034 ∷  -- 116 PLAY/PAUSE
+    media 0xe024 0xe03b ∷  -- 117 STOP
+    media 0xe010 0xe015 ∷  -- 118 PRE-TRACK
+    media 0xe019 0xe04d ∷  -- 119 NEXT-TRACK
+    media 0xe06d 0xe050 ∷  -- 120 MEDIA-SELECT
+    media 0xe06b 0xe040 ∷  -- 121 MY-COMPUTER
+    media 0xe021 0xe02b ∷  -- 122 CALCULATOR
+    media 0xe05e 0xe037 ∷  -- 123 POWER
+    media 0xe05f 0xe03f ∷  -- 124 SLEEP
+    media 0xe063 0xe05e ∷  -- 125 WAKE-UP
     []
 
 -- A row as the code lays it out: its four numbers.

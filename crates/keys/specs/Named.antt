@@ -39,3 +39,7 @@ printKey = 99
 
 abbrev pub pauseKey : ℕ
 pauseKey = 101
+
+-- The media keys stand from here on.
+abbrev pub firstMedia : ℕ
+firstMedia = 105

@@ -1,4 +1,4 @@
-// The key table: what each of the 104 keys is called on the wire (docs/RULES.md, section 1).
+// The key table: what each of the 125 keys is called on the wire (docs/RULES.md, section 1).
 // Whoever wants a row is lent the table, and nothing else names it. Two other parts have tables of their own, which their proofs
 // compute from this one: the way back from a code (lookup), and the default types (record::power).
 ghost use mathlib.Core.Path.{_≡_};
@@ -18,10 +18,10 @@ pub const TYPEMATIC_MAKE_BREAK: u8 = 3;
 pub struct Row(pub u16, pub u16, pub u16, pub u16);
 
 // Keys are numbered from 1 to this.
-pub const LAST_KEY: u8 = 104;
+pub const LAST_KEY: u8 = 125;
 
 // The keys that the rules call by name: the six modifier keys, the ten cursor keys, which stand from INS to RIGHT, and the three others
-// that have forms.
+// that have forms; and the media keys, which stand from WWW-BACK to the last key and have no code in set 3.
 pub const SHIFT_L: u8 = 42;
 
 pub const SHIFT_R: u8 = 53;
@@ -43,6 +43,8 @@ pub const KEYPAD_SLASH: u8 = 70;
 pub const PRINT: u8 = 99;
 
 pub const PAUSE: u8 = 101;
+
+pub const FIRST_MEDIA: u8 = 105;
 
 // Places for something of each key, by its number: place 0 is no key's.
 pub const PLACES: usize = LAST_KEY as usize + 1;
@@ -163,6 +165,27 @@ const KEYS: Table = [
     [0xe05b, 0xe01f, 0x8b, MB], // 102 LWIN
     [0xe05c, 0xe027, 0x8c, MB], // 103 RWIN
     [0xe05d, 0xe02f, 0x8d, MB], // 104 APP
+    [0xe06a, 0xe038, 0, 0], // 105 WWW-BACK
+    [0xe069, 0xe030, 0, 0], // 106 WWW-FORWARD
+    [0xe068, 0xe028, 0, 0], // 107 WWW-STOP
+    [0xe067, 0xe020, 0, 0], // 108 WWW-REFRESH
+    [0xe065, 0xe010, 0, 0], // 109 WWW-SEARCH
+    [0xe066, 0xe018, 0, 0], // 110 WWW-FAVORITES
+    [0xe032, 0xe03a, 0, 0], // 111 WEB/HOME
+    [0xe06c, 0xe048, 0, 0], // 112 MAIL
+    [0xe020, 0xe023, 0, 0], // 113 MUTE
+    [0xe02e, 0xe021, 0, 0], // 114 VOLUME-
+    [0xe030, 0xe032, 0, 0], // 115 VOLUME+
+    [0xe022, 0xe034, 0, 0], // 116 PLAY/PAUSE
+    [0xe024, 0xe03b, 0, 0], // 117 STOP
+    [0xe010, 0xe015, 0, 0], // 118 PRE-TRACK
+    [0xe019, 0xe04d, 0, 0], // 119 NEXT-TRACK
+    [0xe06d, 0xe050, 0, 0], // 120 MEDIA-SELECT
+    [0xe06b, 0xe040, 0, 0], // 121 MY-COMPUTER
+    [0xe021, 0xe02b, 0, 0], // 122 CALCULATOR
+    [0xe05e, 0xe037, 0, 0], // 123 POWER
+    [0xe05f, 0xe03f, 0, 0], // 124 SLEEP
+    [0xe063, 0xe05e, 0, 0], // 125 WAKE-UP
 ];
 
 // The whole table, for a caller to lay out once and lend. No other function names it: the check pays for each that does.

@@ -8,7 +8,8 @@ use borrow.Author.Tests.{eqb-true}
 use lib.Dec.{eqb}
 use lib.ListN.{getD}
 use Rattle.keys.specs.declared.Row.{Row}
-use Rattle.keys.specs.Keys.{rows, rowCode, rowOf, noRow, codeIn}
+use Rattle.basics.specs.Choice.{pick}
+use Rattle.keys.specs.Keys.{rows, rowCode, rowOf, noRow, noCode, codeIn}
 use Rattle.lookup.specs.Lookup.{firstWith, keyWith}
 
 -- What is found among these rows, numbered from `key` on, is none or has the code.
@@ -34,7 +35,14 @@ first-own set code key (r ∷ l) = go (eqb (rowCode set r) code) refl (first-own
 
 pub own-code : (set code : ℕ) → (keyWith set code ≡ 0 → ⊥) → codeIn set (keyWith set code) ≡ code
 unfolding keyWith codeIn rowOf
-own-code set code some =
-    let a = first-own set code 1 rows some in
-    let number : keyWith set code ≡ suc (a .place) = omega (arith, a .number) in
-    ap (λ (key : ℕ). rowCode set (getD (noRow ∷ rows) key noRow)) number ∙ a .its-code
+own-code set code = go (eqb code noCode)
+  where
+    found : ℕ
+    found = firstWith set code 1 rows
+
+    go : (none : Bool) → (pick none 0 found ≡ 0 → ⊥) → rowCode set (getD (noRow ∷ rows) (pick none 0 found) noRow) ≡ code
+    go true some = absurd (some refl)
+    go false some =
+        let a = first-own set code 1 rows some in
+        let number : found ≡ suc (a .place) = omega (arith, a .number) in
+        ap (λ (key : ℕ). rowCode set (getD (noRow ∷ rows) key noRow)) number ∙ a .its-code

@@ -5,8 +5,9 @@ use Prim.Native.Nat.{ℕ, suc, _+_, _≤_}
 use native.Mathlib.Omega.{arith}
 use lib.Dec.{eqb}
 use lib.ListN.{length}
+use Rattle.basics.proofs.Cases.{picked}
 use Rattle.keys.specs.declared.Row.{Row}
-use Rattle.keys.specs.Keys.{rows, rowCode, lastKey}
+use Rattle.keys.specs.Keys.{rows, rowCode, noCode, lastKey}
 use Rattle.keys.proofs.Laws.{rows-length}
 use Rattle.lookup.specs.Lookup.{firstWith, keyWith}
 
@@ -24,4 +25,4 @@ pub key-with-small : (set code : ℕ) → keyWith set code ≤ lastKey
 unfolding keyWith
 key-with-small set code =
     let first = first-small set code 0 rows in
-    omega (arith, rows-length)
+    picked (λ (key : ℕ). key ≤ lastKey) (eqb code noCode) _ _ (omega arith) (omega (arith, rows-length))

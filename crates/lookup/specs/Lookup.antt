@@ -4,16 +4,17 @@ use mathlib.Core.Bool.{true, false}
 use mathlib.Core.List.{List, [], _∷_}
 use lib.Dec.{eqb}
 use Rattle.keys.specs.declared.Row.{Row}
-use Rattle.keys.specs.Keys.{rows, rowCode}
+use Rattle.basics.specs.Choice.{pick}
+use Rattle.keys.specs.Keys.{rows, rowCode, noCode}
 
 -- The first of these rows that has the code in the set, with the rows numbered from `key` on; 0 for none.
 unfoldable pub firstWith : ℕ → ℕ → ℕ → List Row → ℕ
 firstWith set code key [] = 0
 firstWith set code key (r ∷ rest) = elim (eqb (rowCode set r) code) [ true ↦ key | false ↦ firstWith set code (suc key) rest ]
 
--- The key with a code in a set, or 0.
+-- The key with a code in a set, or 0. What stands for no code is nobody's.
 unfoldable pub keyWith : ℕ → ℕ → ℕ
-keyWith set code = firstWith set code 1 rows
+keyWith set code = pick (eqb code noCode) 0 (firstWith set code 1 rows)
 
 -- The keys of so many codes from one on, in one number: a byte for each, the first the lowest.
 unfoldable pub keysFrom : ℕ → ℕ → ℕ → ℕ

@@ -28,10 +28,10 @@ use Rattle.dock.specs.Swap.{opened, remapped, swapped, swapOf}
 use Rattle.dock.specs.Frame.{tookFrame, frameOf}
 use Rattle.dock.specs.Read.{remembering, replyTaken, keyByteTaken, read, readOf}
 use Rattle.runs.specs.Stories.{host, nothing, showing, showingToo}
-use Rattle.runs.specs.Told.{twelve}
+use Rattle.runs.specs.Told.{twelve, mediaPanel}
 use Rattle.runs.specs.Bytes.{keyBytesOf}
 use Rattle.transcripts.specs.Transcripts.{reached, gives, comeOut}
-use Rattle.repeats.specs.Repeated.{quickest, due, notBefore, repeatLost, repeatAfterLost, repeatTime, repeatInPhantom, noneTakesOver, pauseEndsRepeat, repeatUnwrapped, slowAgain, paced, enableEndsRepeat, swapKeepsModes, setRestoresRate, defaultRestoresRate, resetRestoresRate, rateOfNextInterval, repeatInSet3}
+use Rattle.repeats.specs.Repeated.{quickest, due, notBefore, repeatLost, repeatAfterLost, repeatTime, repeatInPhantom, noneTakesOver, pauseEndsRepeat, mediaTakesOver, mediaEndsRepeat, repeatUnwrapped, slowAgain, paced, enableEndsRepeat, swapKeepsModes, setRestoresRate, defaultRestoresRate, resetRestoresRate, rateOfNextInterval, repeatInSet3}
 
 pub all-due : comeOut keyBytesOf due ≡ true
 unfolding
@@ -53,7 +53,7 @@ unfolding
     frameOf remembering replyTaken keyByteTaken read readOf
     reached gives comeOut host nothing showing showingToo twelve
     quickest due notBefore repeatLost repeatAfterLost repeatTime
-    repeatInPhantom noneTakesOver pauseEndsRepeat repeatUnwrapped
+    repeatInPhantom noneTakesOver pauseEndsRepeat mediaPanel mediaTakesOver mediaEndsRepeat repeatUnwrapped
 all-due = refl
 
 pub all-paced : comeOut keyBytesOf paced ≡ true

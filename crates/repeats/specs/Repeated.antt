@@ -5,6 +5,7 @@ use Rattle.frames.specs.Frames.{packedOf}
 use Rattle.record.specs.Power.{plainMap}
 use Rattle.dock.specs.Calls.{Call, Swap, Frame}
 use Rattle.runs.specs.Stories.{reads, host, scans, nothing, showing, showingToo}
+use Rattle.runs.specs.Told.{mediaPanel}
 use Rattle.transcripts.specs.Transcripts.{Transcript, transcript}
 
 -- The quickest rate is chosen, F3 00: a repeat after 60 scans, and then every 8.
@@ -56,6 +57,20 @@ pauseEndsRepeat =
     (scans 3 (showing 0 4) ++ reads 1 ++ scans 3 (showingToo 12 0x10 (showing 0 4)) ++ reads 8 ++ scans 68 (showingToo 12 0x10 (showing 0 4)) ++ reads 1 ++ Swap plainMap ∷ reads 2)
     (0x1e ∷ 0xe1 ∷ 0x14 ∷ 0x77 ∷ 0xe1 ∷ 0xf0 ∷ 0x14 ∷ 0xf0 ∷ 0x77 ∷ 0xf0 ∷ 0x1e ∷ [])
 
+-- A media key, in the place of the 2, repeats like any other, and takes over from the 5, row 5 of column 0.
+unfoldable pub mediaTakesOver : Transcript
+mediaTakesOver =
+    transcript (quickest ++ Swap mediaPanel ∷ [])
+    (scans 3 (showing 0 0x20) ++ reads 1 ++ scans 3 (showing 0 0x24) ++ reads 2 ++ scans 60 (showing 0 0x24) ++ reads 2 ++ Swap plainMap ∷ reads 5)
+    (0x2e ∷ 0xe0 ∷ 0x38 ∷ 0xe0 ∷ 0x38 ∷ 0xf0 ∷ 0x2e ∷ 0xe0 ∷ 0xf0 ∷ 0x38 ∷ [])
+
+-- In set 3 it ends the repeat of the 5, and has none itself, though F7 was to make all keys repeat.
+unfoldable pub mediaEndsRepeat : Transcript
+mediaEndsRepeat =
+    transcript (reads 1 ++ host 0xf0 ++ host 3 ++ host 0xf7 ++ host 0xf3 ++ host 0 ++ Swap mediaPanel ∷ [])
+    (scans 3 (showing 0 0x20) ++ reads 1 ++ scans 71 (showing 0 0x24) ++ reads 1)
+    (0x2e ∷ [])
+
 -- A repeat is not wrapped.
 unfoldable pub repeatUnwrapped : Transcript
 repeatUnwrapped =
@@ -66,7 +81,7 @@ repeatUnwrapped =
 -- When a repeat falls due, what it sends, and what ends it.
 unfoldable pub due : List Transcript
 due =
-    notBefore ∷ repeatLost ∷ repeatAfterLost ∷ repeatTime ∷ repeatInPhantom ∷ noneTakesOver ∷ pauseEndsRepeat ∷ repeatUnwrapped ∷ []
+    notBefore ∷ repeatLost ∷ repeatAfterLost ∷ repeatTime ∷ repeatInPhantom ∷ noneTakesOver ∷ pauseEndsRepeat ∷ mediaTakesOver ∷ mediaEndsRepeat ∷ repeatUnwrapped ∷ []
 
 -- F4 ends a repeat.
 unfoldable pub enableEndsRepeat : Transcript

@@ -14,7 +14,7 @@ use Rattle.basics.proofs.Sameness.{same-is}
 use Rattle.keys.specs.Keys.{rows, rowOf, codeIn, lastKey}
 use Rattle.lookup.specs.Lookup.{keyWith, firstWith}
 use Rattle.codes.specs.declared.Form.the-variants.{Plain, Other}
-use Rattle.codes.specs.Codes.{makeOf, breakOf, prefix, codeOf, pauseBytes}
+use Rattle.codes.specs.Codes.{makeOf, breakOf, prefix, hasCode, codeOf, pauseBytes}
 use Rattle.reader.specs.declared.Event.{Event}
 use Rattle.reader.specs.declared.Event.the-variants.{More, Pressed, Released, PauseStruck, Wrapping, Overrun, Unknown, BadState, BadSet}
 use Rattle.reader.specs.States.{beginnings, seen}
@@ -23,7 +23,8 @@ use Rattle.roundtrip.specs.OwnCode.{GoesDown, ComesUp, StrikesPause}
 
 -- A number and a list that pass these tests are a key and its code in a set.
 isCode : ℕ → ℕ → List ℕ → List ℕ → List ℕ → Bool
-isCode set key bytes plain other = both (between 1 lastKey key) (either (same bytes plain) (both (not (eqb set 3)) (same bytes other)))
+isCode set key bytes plain other =
+    both (both (between 1 lastKey key) (hasCode set key)) (either (same bytes plain) (both (not (eqb set 3)) (same bytes other)))
 
 -- A list that passes these tests says in a set that PAUSE was struck.
 isPause : ℕ → List ℕ → Bool
@@ -90,19 +91,23 @@ one-of bytes plain other t = go (same bytes plain) refl t
     go false e h = inr (same-is bytes other (passed (same bytes other) h))
 
 code-of : (set key : ℕ) (bytes plain other : List ℕ) → T (isCode set key bytes plain other)
-    → (1 ≤ key) × (key ≤ lastKey) × ((bytes ≡ plain) ⊎ ((set ≡ 3 → ⊥) × (bytes ≡ other)))
+    → (1 ≤ key) × (key ≤ lastKey) × (hasCode set key ≡ true) × ((bytes ≡ plain) ⊎ ((set ≡ 3 → ⊥) × (bytes ≡ other)))
 unfolding isCode
 code-of set key bytes plain other t = (
   leb→le 1 key (both-left (leb 1 key) (leb key lastKey) range),
   leb→le key lastKey (both-right (leb 1 key) (leb key lastKey) range),
-  go (same bytes plain) refl (both-right (between 1 lastKey key) (either (same bytes plain) byOther) t),
+  passed (hasCode set key) (both-right (between 1 lastKey key) (hasCode set key) coded),
+  go (same bytes plain) refl (both-right (both (between 1 lastKey key) (hasCode set key)) (either (same bytes plain) byOther) t),
 )
   where
     byOther : Bool
     byOther = both (not (eqb set 3)) (same bytes other)
 
+    coded : T (both (between 1 lastKey key) (hasCode set key))
+    coded = both-left (both (between 1 lastKey key) (hasCode set key)) (either (same bytes plain) byOther) t
+
     range : T (between 1 lastKey key)
-    range = both-left (between 1 lastKey key) (either (same bytes plain) byOther) t
+    range = both-left (between 1 lastKey key) (hasCode set key) coded
 
     go : (b : Bool) → same bytes plain ≡ b → T (either b byOther) → (bytes ≡ plain) ⊎ ((set ≡ 3 → ⊥) × (bytes ≡ other))
     go true e h = inl (same-is bytes plain e)
@@ -128,7 +133,7 @@ module _ (set state byte : ℕ) (low : 1 ≤ set) (high : set ≤ 3) (s : state 
   pressed-by-its-code key e =
       let t = code-of set key (seen state ++ byte ∷ []) (makeOf (codeOf set key Plain)) (makeOf (codeOf set key Other))
       (both-right (eqb (readByte set state byte .state) 0) _ (told (Pressed key) e)) in
-      record { low = t .0; high = t .1; code = t .2 }
+      record { low = t .0; high = t .1; coded = t .2; code = t .3 }
 
   -- So is a release.
   pub released-by-its-code : (key : ℕ) → readByte set state byte .event ≡ Released key → ComesUp set key (seen state ++ byte ∷ [])
@@ -136,7 +141,7 @@ module _ (set state byte : ℕ) (low : 1 ≤ set) (high : set ≤ 3) (s : state 
   released-by-its-code key e =
       let t = code-of set key (seen state ++ byte ∷ []) (breakOf set (codeOf set key Plain)) (breakOf set (codeOf set key Other))
       (both-right (eqb (readByte set state byte .state) 0) _ (told (Released key) e)) in
-      record { low = t .0; high = t .1; code = t .2 }
+      record { low = t .0; high = t .1; coded = t .2; code = t .3 }
 
   -- PAUSE is struck only at the end of its own bytes.
   pub paused-by-its-code : readByte set state byte .event ≡ PauseStruck → StrikesPause set (seen state ++ byte ∷ [])

@@ -7,6 +7,7 @@ use Prim.Native.Nat.{ℕ, zero, suc, _+_, _≤_}
 use native.Mathlib.Nat.{not-suc-le-zero}
 use native.Mathlib.Omega.{arith}
 use lib.ListN.{getD}
+use Rattle.basics.specs.Choice.{pick}
 use Rattle.basics.specs.Lists.{mapFrom}
 use Rattle.basics.proofs.Tables.{at-each-place}
 use Rattle.keys.specs.Keys.{rows, rowOf, noRow, codeIn, lastKey}
@@ -16,7 +17,7 @@ use Rattle.codes.specs.declared.Action.{Action}
 use Rattle.codes.specs.declared.Action.the-variants.{Press, Release, Repeat}
 use Rattle.codes.specs.declared.Form.{Form}
 use Rattle.codes.specs.declared.Form.the-variants.{Plain, ShiftLeft, ShiftRight, ShiftBoth, NumLock, Other}
-use Rattle.codes.specs.Codes.{bytesOf, encode, before, after, makeOf, breakOf, prefix, codeOf, pauseBytes, sendsRelease, mayRepeat, formOf}
+use Rattle.codes.specs.Codes.{bytesOf, encode, before, after, makeOf, breakOf, prefix, codeOf, pauseBytes, sendsRelease, mayRepeat, formOf, hasCode}
 use Rattle.reader.specs.declared.Event.{Event}
 use Rattle.reader.specs.Reader.{readByte, inSet1, inSet2, inSet3, heard}
 use Rattle.reader.specs.Reading.{Run, readAll}
@@ -81,10 +82,13 @@ in-set-2 : (type : ℕ) → Holds 2 type
 unfolding Holds rows rowOf codeIn keyWith firstWith actions forms bytesOf before after makeOf breakOf prefix codeOf pauseBytes sendsRelease mayRepeat readAll readByte inSet2 heard wanted
 in-set-2 type = refl
 
--- In set 3 forms play no part, and types do.
-in-set-3 : mapFrom (λ key r. map (λ action. map (λ type. readAll 3 0 (bytesOf 3 key action type Plain)) types) actions) 1 rows
+-- In set 3 forms play no part, and types do; media keys send nothing.
+inThree : ℕ → Action → ℕ → List ℕ
+inThree key action type = pick (hasCode 3 key) (bytesOf 3 key action type Plain) []
+
+in-set-3 : mapFrom (λ key r. map (λ action. map (λ type. readAll 3 0 (inThree key action type)) types) actions) 1 rows
     ≡ mapFrom (λ key r. map (λ action. map (λ type. noting (wanted 3 key action type)) types) actions) 1 rows
-unfolding rows rowOf codeIn keyWith firstWith actions types bytesOf before after makeOf breakOf prefix codeOf pauseBytes sendsRelease mayRepeat readAll readByte inSet3 wanted
+unfolding inThree rows rowOf codeIn keyWith firstWith actions types bytesOf before after makeOf breakOf prefix codeOf pauseBytes sendsRelease mayRepeat readAll readByte inSet3 wanted
 in-set-3 = refl
 
 module _ (key : ℕ) (low : 1 ≤ key) (high : key ≤ lastKey) (action : Action) where
@@ -97,26 +101,27 @@ module _ (key : ℕ) (low : 1 ≤ key) (high : key ≤ lastKey) (action : Action
       (λ k. map (λ a. map (λ f. noting (wanted set k a type)) forms) actions) holds key low high)
       action)
 
-  at-type : (type : ℕ) → type ≤ 3 → readAll 3 0 (bytesOf 3 key action type Plain) ≡ noting (wanted 3 key action type)
+  at-type : (type : ℕ) → type ≤ 3 → readAll 3 0 (inThree key action type) ≡ noting (wanted 3 key action type)
   at-type =
-      each-type (λ t. readAll 3 0 (bytesOf 3 key action t Plain)) (λ t. noting (wanted 3 key action t))
-      (each-action (λ a. map (λ t. readAll 3 0 (bytesOf 3 key a t Plain)) types) (λ a. map (λ t. noting (wanted 3 key a t)) types)
-      (each-key (λ k. map (λ a. map (λ t. readAll 3 0 (bytesOf 3 k a t Plain)) types) actions)
+      each-type (λ t. readAll 3 0 (inThree key action t)) (λ t. noting (wanted 3 key action t))
+      (each-action (λ a. map (λ t. readAll 3 0 (inThree key a t)) types) (λ a. map (λ t. noting (wanted 3 key a t)) types)
+      (each-key (λ k. map (λ a. map (λ t. readAll 3 0 (inThree k a t)) types) actions)
       (λ k. map (λ a. map (λ t. noting (wanted 3 k a t)) types) actions) in-set-3 key low high)
       action)
 
-  -- Set 1 or 2, at whichever form the bytes were made.
-  pub read-back-form : (set : ℕ) → (set ≡ 1) ⊎ (set ≡ 2) → (type : ℕ) (form : Form)
-      → readAll set 0 (bytesOf set key action type form) ≡ noting (wanted set key action type)
-  read-back-form set (inl e) type form = rw e (at-form 1 type (in-set-1 type) form)
-  read-back-form set (inr e) type form = rw e (at-form 2 type (in-set-2 type) form)
+  -- In sets 1 and 2 whatever the type is, be it a number that is none.
+  pub read-back-typeless : (set : ℕ) → (set ≡ 1) ⊎ (set ≡ 2) → (type modifiers : ℕ) (lock : Bool)
+      → readAll set 0 (encode set key action type modifiers lock) ≡ noting (wanted set key action type)
+  unfolding encode
+  read-back-typeless set (inl e) type modifiers lock = rw e (at-form 1 type (in-set-1 type) (formOf 1 key modifiers lock))
+  read-back-typeless set (inr e) type modifiers lock = rw e (at-form 2 type (in-set-2 type) (formOf 2 key modifiers lock))
 
   -- The demand: in every set, for every key, action, type and choice of modifiers and Num Lock.
   pub read-back : (set type modifiers : ℕ) (lock : Bool) → 1 ≤ set → set ≤ 3 → type ≤ 3
       → readAll set 0 (encode set key action type modifiers lock) ≡ noting (wanted set key action type)
-  unfolding encode formOf
+  unfolding encode formOf inThree
   read-back zero type modifiers lock a b h = absurd (not-suc-le-zero a)
-  read-back (suc zero) type modifiers lock a b h = at-form 1 type (in-set-1 type) (formOf 1 key modifiers lock)
-  read-back (suc (suc zero)) type modifiers lock a b h = at-form 2 type (in-set-2 type) (formOf 2 key modifiers lock)
+  read-back (suc zero) type modifiers lock a b h = read-back-typeless 1 (inl refl) type modifiers lock
+  read-back (suc (suc zero)) type modifiers lock a b h = read-back-typeless 2 (inr refl) type modifiers lock
   read-back (suc (suc (suc zero))) type modifiers lock a b h = at-type type h
   read-back (suc (suc (suc (suc s)))) type modifiers lock a b h = absurd (omega arith)

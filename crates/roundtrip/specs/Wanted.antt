@@ -3,7 +3,7 @@
 use Prim.Native.Nat.{ℕ}
 use mathlib.Core.Bool.{Bool, not}
 use mathlib.Core.List.{List, [], _∷_}
-use lib.Dec.{eqb}
+use lib.Dec.{eqb, leb}
 use Rattle.basics.specs.Choice.{pick, both, either}
 use Rattle.keys.specs.Named.{pauseKey}
 use Rattle.codes.specs.declared.Action.{Action}
@@ -23,8 +23,12 @@ tellsRelease set type = either (not (eqb set 3)) (either (eqb type 1) (eqb type 
 abbrev pub repeats : ℕ → ℕ → ℕ → Bool
 repeats set key type = both (not (eqb key pauseKey)) (either (not (eqb set 3)) (either (eqb type 0) (eqb type 3)))
 
+-- Nothing is heard of keys 105 to 125 in set 3.
+abbrev pub isUnheard : ℕ → ℕ → Bool
+isUnheard set key = both (eqb set 3) (leb 105 key)
+
 -- The key and the event, where there are bytes: a repeat reads as a press, and PAUSE is struck in sets 1 and 2.
 unfoldable pub wanted : ℕ → ℕ → Action → ℕ → List Event
-wanted set key Press type = pick (isStruck set key) (PauseStruck ∷ []) (Pressed key ∷ [])
-wanted set key Release type = pick (isStruck set key) [] (pick (tellsRelease set type) (Released key ∷ []) [])
-wanted set key Repeat type = pick (repeats set key type) (Pressed key ∷ []) []
+wanted set key Press type = pick (isUnheard set key) [] (pick (isStruck set key) (PauseStruck ∷ []) (Pressed key ∷ []))
+wanted set key Release type = pick (isUnheard set key) [] (pick (isStruck set key) [] (pick (tellsRelease set type) (Released key ∷ []) []))
+wanted set key Repeat type = pick (isUnheard set key) [] (pick (repeats set key type) (Pressed key ∷ []) [])

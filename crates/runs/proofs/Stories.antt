@@ -40,7 +40,7 @@ use Rattle.runs.specs.Machines.{lowestFrom, findsNoRoom, keyLeft}
 use Rattle.runs.specs.Worlds.{woken, next, afterCalls}
 use Rattle.runs.specs.Runs.{noneHeldFrom, mayBegin, turningBytes, overruns, undisturbed}
 use Rattle.runs.specs.Stories.{Story, outcome, flagged, saidFrom, host, nothing, showing, showingToo}
-use Rattle.runs.specs.Told.{stories, limestone, heldOn, repeatEnded, shiftedCursor, shiftedCursorInSet1, shiftLetGo, twelve, twelvePressed, twelveReleased, longHandover, secondSwap, otherPanel, waitingCommand, scanningOff, phantomScans, waitingReply, thirdScan, typedOnAtOnce, identified, setDefault, afterReset, afterOverrun, wrongValues, pauseStruck, refusals}
+use Rattle.runs.specs.Told.{stories, limestone, heldOn, repeatEnded, shiftedCursor, shiftedCursorInSet1, shiftLetGo, twelve, twelvePressed, twelveReleased, longHandover, secondSwap, otherPanel, mediaPanel, mediaKeys, mediaHandedOver, waitingCommand, scanningOff, phantomScans, waitingReply, thirdScan, typedOnAtOnce, identified, setDefault, afterReset, afterOverrun, wrongValues, pauseStruck, refusals}
 
 -- The list names every unfoldable definition that a story computes through, crate by crate. If one is missing, the two sides stand
 -- still and `refl` is refused: add it here.
@@ -71,6 +71,6 @@ unfolding
     woken next afterCalls noneHeldFrom mayBegin turningBytes
     overruns undisturbed outcome flagged saidFrom host nothing showing showingToo stories limestone heldOn repeatEnded
     shiftedCursor shiftedCursorInSet1 shiftLetGo twelve twelvePressed twelveReleased givenIn longHandover secondSwap
-    otherPanel waitingCommand scanningOff phantomScans waitingReply thirdScan typedOnAtOnce identified setDefault afterReset
+    otherPanel mediaPanel mediaKeys mediaHandedOver waitingCommand scanningOff phantomScans waitingReply thirdScan typedOnAtOnce identified setDefault afterReset
     afterOverrun wrongValues pauseStruck refusals
 all-as-told = refl

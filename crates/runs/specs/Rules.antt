@@ -5,6 +5,7 @@ use Prim.Native.Nat.{ℕ, zero, suc, _+_, _*_, _/_, _%_, _^_}
 use mathlib.Core.Bool.{Bool, false}
 use mathlib.Core.List.{List, [], _∷_, map}
 use lib.Dec.{eqb, leb}
+use lib.ListN.{take}
 use Rattle.basics.specs.Choice.{pick, either}
 use Rattle.keys.specs.declared.Row.{Row}
 use Rattle.keys.specs.Keys.{rows}
@@ -38,9 +39,9 @@ unfoldable pub looksPhantom : List ℕ → Bool
 looksPhantom [] = false
 looksPhantom (x ∷ xs) = either (sharesTwo x xs) (looksPhantom xs)
 
--- The set 3 codes of all keys.
+-- The set 3 codes of keys 1 to 104: the others have none.
 unfoldable pub setThreeCodes : List ℕ
-setThreeCodes = map (λ (r : Row). r .2) rows
+setThreeCodes = map (λ (r : Row). r .2) (take 104 rows)
 
 -- The sets: 1 to 3.
 unfoldable pub sets : List ℕ

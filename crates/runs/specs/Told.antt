@@ -96,6 +96,21 @@ waitingReply = story (reads 1) (Frame (packedOf 0xee) ∷ scans 3 (showing 0 4) 
 unfoldable pub otherPanel : Story
 otherPanel = story (reads 1) (Swap (set (set plainMap 2 4) 3 3) ∷ scans 3 (showing 0 4) ++ reads 1) (agreeing (0x26 ∷ []) (4 ∷ []))
 
+-- A panel with the first and the last media key, WWW-BACK and WAKE-UP, in the places of the 2 and the 3.
+unfoldable pub mediaPanel : List ℕ
+mediaPanel = set (set plainMap 2 105) 3 125
+
+-- Both go down,
+unfoldable pub mediaKeys : Story
+mediaKeys = story (reads 1) (Swap mediaPanel ∷ scans 3 (showing 0 12) ++ reads 4) (agreeing (0xe0 ∷ 0x38 ∷ 0xe0 ∷ 0x5e ∷ []) (105 ∷ 125 ∷ []))
+
+-- and are handed over like any other.
+unfoldable pub mediaHandedOver : Story
+mediaHandedOver =
+    story (reads 1)
+    (Swap mediaPanel ∷ scans 3 (showing 0 12) ++ reads 4 ++ Swap plainMap ∷ reads 6)
+    (agreeing (0xe0 ∷ 0x38 ∷ 0xe0 ∷ 0x5e ∷ 0xe0 ∷ 0xf0 ∷ 0x38 ∷ 0xe0 ∷ 0xf0 ∷ 0x5e ∷ []) [])
+
 -- Scans counted before the terminal begins count: the third comes after it.
 unfoldable pub thirdScan : Story
 thirdScan = story (reads 1 ++ scans 2 (showing 0 4)) (scans 1 (showing 0 4) ++ reads 1) (agreeing (0x1e ∷ []) (3 ∷ []))
@@ -153,4 +168,4 @@ refusals =
 unfoldable pub stories : List Story
 stories =
     limestone ∷ heldOn ∷ shiftLetGo ∷ shiftedCursor ∷ shiftedCursorInSet1 ∷ otherPanel ∷ waitingCommand ∷ scanningOff ∷ phantomScans
-    ∷ waitingReply ∷ thirdScan ∷ typedOnAtOnce ∷ identified ∷ setDefault ∷ afterReset ∷ afterOverrun ∷ wrongValues ∷ pauseStruck ∷ refusals ∷ repeatEnded ∷ longHandover ∷ secondSwap ∷ []
+    ∷ mediaKeys ∷ mediaHandedOver ∷ waitingReply ∷ thirdScan ∷ typedOnAtOnce ∷ identified ∷ setDefault ∷ afterReset ∷ afterOverrun ∷ wrongValues ∷ pauseStruck ∷ refusals ∷ repeatEnded ∷ longHandover ∷ secondSwap ∷ []

@@ -4,15 +4,16 @@ use mathlib.Core.Bool.{Bool, true, false, not}
 use mathlib.Core.List.{List, [], _++_}
 use Prim.Native.Nat.{ℕ, _+_, _-_, _≤_, _<_}
 use native.Mathlib.Omega.{arith}
-use borrow.Author.Tests.{lt-leb, eq-eqb, ne-eqb, eqb-false}
+use borrow.Author.Tests.{lt-leb, lt-ltb, le-ltb, eq-eqb, ne-eqb, eqb-false}
 use lib.Dec.{eqb}
 use lib.ListN.{length, length-append}
 use Rattle.basics.specs.Choice.{pick, both, either}
-use Rattle.basics.proofs.Cases.{picked, never, two-by-cases}
+use Rattle.basics.proofs.Cases.{picked, never, two-by-cases, either-true}
 use Rattle.codes.specs.declared.Action.the-variants.{Press, Release}
 use Rattle.codes.specs.declared.Sequence.{Sequence}
-use Rattle.codes.specs.Codes.{prefix, makeOf, breakOf, before, after, codeOf, isOther, isPause, pausesAtOnce, pauseBytes, sendsRelease, bytesOf, encode, formOf}
+use Rattle.codes.specs.Codes.{prefix, makeOf, breakOf, before, after, codeOf, isOther, isPause, hasCode, pausesAtOnce, pauseBytes, sendsRelease, bytesOf, encode, formOf}
 use Rattle.keys.specs.Keys.{codeIn, markOf, makeBreak, typematicMakeBreak}
+use Rattle.keys.specs.Named.{firstMedia}
 use Rattle.queue.specs.declared.Queue.{Queue}
 use Rattle.queue.specs.Queues.{queueWith, waiting, queueOf, lastReplaced, tidy, contents, pushedTo}
 use Rattle.queue.proofs.Meaning.{length-waiting, tidy-short, tidy-is}
@@ -38,41 +39,44 @@ unfolding breakOf
 break-long set code =
     behind (shortestRelease set) (prefix code) _ (two-by-cases Long (eqb set 1) 1 2 _ _ (λ e. omega arith) (λ e. omega arith))
 
--- A press always sends something.
-pub press-some : (set key type modifiers : ℕ) (lock : Bool) → 1 ≤ length (encode set key Press type modifiers lock)
+-- A press of a key that has a code sends something.
+pub press-some : (set key type modifiers : ℕ) (lock : Bool) → hasCode set key ≡ true → 1 ≤ length (encode set key Press type modifiers lock)
 unfolding encode bytesOf pauseBytes
-press-some set key type modifiers lock =
+press-some set key type modifiers lock coded =
     let form = formOf set key modifiers lock in
-    picked (Long 1) (pausesAtOnce set key) _ _
+    rw coded
+    (picked (Long 1) (pausesAtOnce set key) _ _
     (picked (Long 1) (isOther form) _ _ (ahead 1 (makeOf (codeIn set 101)) _ (make-some (codeIn set 101))) (omega arith))
-    (behind 1 (before set form) _ (make-some (codeOf set key form)))
+    (behind 1 (before set form) _ (make-some (codeOf set key form))))
 
 -- A silent release sends nothing, and any other has as many bytes as the shortest, or more.
 module _ (set key type modifiers : ℕ) (lock silent : Bool)
-    (e : silent ≡ either (pausesAtOnce set key) (not (sendsRelease set type))) where
+    (e : silent ≡ either (pausesAtOnce set key) (not (both (hasCode set key) (sendsRelease set type)))) where
   broken : List ℕ
   broken = breakOf set (codeOf set key (formOf set key modifiers lock)) ++ after set (formOf set key modifiers lock)
 
   pub release-none : silent ≡ true → encode set key Release type modifiers lock ≡ []
   unfolding encode bytesOf broken
-  release-none t = go (pausesAtOnce set key) (sendsRelease set type) (sym e ∙ t)
+  release-none t = go (pausesAtOnce set key) (hasCode set key) (sendsRelease set type) (sym e ∙ t)
     where
-      go : (p s : Bool) → either p (not s) ≡ true → pick p [] (pick s broken []) ≡ []
-      go true s n = refl
-      go false false n = refl
-      go false true n = never false n refl
+      go : (p c s : Bool) → either p (not (both c s)) ≡ true → pick c (pick p [] (pick s broken [])) [] ≡ []
+      go p false s n = refl
+      go true true s n = refl
+      go false true false n = refl
+      go false true true n = never false n refl
 
   pub release-long : silent ≡ false → shortestRelease set ≤ length (encode set key Release type modifiers lock)
   unfolding encode bytesOf broken
-  release-long f = go (pausesAtOnce set key) (sendsRelease set type) (sym e ∙ f)
+  release-long f = go (pausesAtOnce set key) (hasCode set key) (sendsRelease set type) (sym e ∙ f)
     where
-      go : (p s : Bool) → either p (not s) ≡ false → shortestRelease set ≤ length (pick p [] (pick s broken []))
-      go false true n =
+      go : (p c s : Bool) → either p (not (both c s)) ≡ false → shortestRelease set ≤ length (pick c (pick p [] (pick s broken [])) [])
+      go false true true n =
           ahead (shortestRelease set) (breakOf set (codeOf set key (formOf set key modifiers lock)))
           (after set (formOf set key modifiers lock))
           (break-long set (codeOf set key (formOf set key modifiers lock)))
-      go true s n = never true refl n
-      go false false n = never true refl n
+      go true c s n = never true refl n
+      go false false s n = never true refl n
+      go false true false n = never true refl n
 
 -- Where the shortest release has no room, some byte waits, and no longer one has room either.
 pub little-room : (set at n : ℕ) → n ≡ shortestRelease set → 16 - at < n → 1 ≤ at
@@ -89,11 +93,16 @@ too-long set at n count e h l = omega arith
 pub past-full : (at count : ℕ) → at ≡ 16 → 1 ≤ count → 16 < at + count
 past-full at count e h = omega arith
 
--- Which releases are silent: in set 3 the type says, else it is that of PAUSE.
-pub silent-by-type : (set key type : ℕ) → set ≡ 3
-    → both (not (eqb type makeBreak)) (not (eqb type typematicMakeBreak)) ≡ either (pausesAtOnce set key) (not (sendsRelease set type))
+-- Which releases are silent: in set 3 those without a code, and of the others the type says; else it is that of PAUSE.
+pub silent-by-code : (set key type : ℕ) → set ≡ 3 → firstMedia ≤ key
+    → true ≡ either (pausesAtOnce set key) (not (both (hasCode set key) (sendsRelease set type)))
+silent-by-code set key type e h = rw (e, le-ltb key firstMedia h) (sym (either-true (both (isPause key) false)))
+
+pub silent-by-type : (set key type : ℕ) → set ≡ 3 → key < firstMedia
+    → both (not (eqb type makeBreak)) (not (eqb type typematicMakeBreak))
+    ≡ either (pausesAtOnce set key) (not (both (hasCode set key) (sendsRelease set type)))
 unfolding sendsRelease
-silent-by-type set key type e = rw e (go (isPause key) (eqb type makeBreak) (eqb type typematicMakeBreak))
+silent-by-type set key type e h = rw (e, lt-ltb key firstMedia h) (go (isPause key) (eqb type makeBreak) (eqb type typematicMakeBreak))
   where
     go : (p a b : Bool) → both (not a) (not b) ≡ either (both p false) (not (either a b))
     go true true b = refl
@@ -102,7 +111,7 @@ silent-by-type set key type e = rw e (go (isPause key) (eqb type makeBreak) (eqb
     go false false b = refl
 
 pub silent-by-key : (set key type : ℕ) → 1 ≤ set → set ≤ 3 → (set ≡ 3 → ⊥)
-    → isPause key ≡ either (pausesAtOnce set key) (not (sendsRelease set type))
+    → isPause key ≡ either (pausesAtOnce set key) (not (both (hasCode set key) (sendsRelease set type)))
 unfolding sendsRelease
 silent-by-key set key type low high n = rw (ne-eqb set 3 n) (go (isPause key) (eqb set 1) refl)
   where

@@ -1,6 +1,7 @@
 // What a key sends as things stand, and how it is queued (docs/RULES.md, sections 3 and 7).
 use codes::Action;
 use codes::Sequence;
+use codes::rows::has_code;
 use keys::Table;
 use keys::mark_of;
 use record::Held;
@@ -10,9 +11,9 @@ ghost use mathlib.Core.Path.{_≡_};
 ghost use mathlib.Core.Bool.{true, not};
 ghost use Prim.Native.Nat.{_+_, _*_, _≤_, _<_};
 ghost use lib.ListN.{length, getD};
-ghost use Rattle.basics.specs.Choice.{either};
+ghost use Rattle.basics.specs.Choice.{both, either};
 ghost use Rattle.codes.specs.declared.Action.the-variants.{Press, Release};
-ghost use Rattle.codes.specs.Codes.{pausesAtOnce, sendsRelease};
+ghost use Rattle.codes.specs.Codes.{hasCode, pausesAtOnce, sendsRelease};
 ghost use Rattle.codes.specs.Sequences.{holding};
 ghost use Rattle.keys.specs.Keys.{laidOut};
 ghost use Rattle.queue.specs.Queues.{queueWith, tidy};
@@ -89,13 +90,16 @@ fn bytes_in(held: &Held, table: &Table, mode: Mode, kind: u8, key: u8, action: A
     )
 }
 
-// A release that sends nothing: that of PAUSE, which sent all on its press, and in set 3 those of keys whose type sends none. It is
-// asked by branches, since the compiler would else work out both for every key.
+// A release that sends nothing: that of PAUSE, which sent all on its press, and in set 3 those of keys that have no code or whose type
+// sends none. It is asked by branches, since the compiler would else work out all of it for every key.
 fn is_silent(set: u8, key: u8, kind: u8) -> bool
     requires { ⌜ record { low : 1 ≤ set; high : set ≤ 3 } ⌝ }
-    ensures { λ r. ⌜ r ≡ either (pausesAtOnce set key) (not (sendsRelease set kind)) ⌝ }
+    ensures { λ r. ⌜ r ≡ either (pausesAtOnce set key) (not (both (hasCode set key) (sendsRelease set kind))) ⌝ }
 {
     if set == 3 {
+        if keys::FIRST_MEDIA <= key {
+            return true;
+        }
         if (kind != keys::MAKE_BREAK) & (kind != keys::TYPEMATIC_MAKE_BREAK) {
             return true;
         }
@@ -114,8 +118,8 @@ fn shortest_release(set: u8) -> usize
     if set == 1 { 1 } else { 2 }
 }
 
-// What a press sends goes behind the first `at` of the bytes, and so many wait then. A press sends something, and a full queue takes
-// nothing, so there the mark is put without asking what.
+// What a press sends goes behind the first `at` of the bytes, and so many wait then. A full queue takes nothing: there the mark is put
+// without asking what is sent, unless it is nothing, since the key has no code.
 pub fn send_press(
     held: &Held,
     bytes: &mut [u8; 16],
@@ -134,6 +138,9 @@ pub fn send_press(
         ≡ queuedOf (queueWith (now (bytes .entry)) at) mode (sendsWith (now (held .entry)) mode kind key Press) ⌝ }
 {
     if at == 16 {
+        if !has_code(mode.set, key) {
+            return at;
+        }
         queue::mark_last(bytes, at, mark_of(mode.set as u32));
         return at;
     }

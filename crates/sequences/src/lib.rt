@@ -10,6 +10,7 @@ use codes::bytes::empty;
 use codes::bytes::with_break;
 use codes::bytes::with_make;
 use codes::rows::code_in;
+use codes::rows::has_code;
 use codes::rows::may_repeat;
 use codes::rows::sends_release;
 use forms::form_of;
@@ -163,6 +164,9 @@ pub fn sequence_in(
     requires { ⌜ now table ≡ laidOut ⌝ }
     ensures { λ r. ⌜ r ≡ holding (encode set key action kind modifiers lock) ⌝ }
 {
+    if !has_code(set, key) {
+        return empty();
+    }
     let form = form_of(set, key, modifiers, lock);
     match action {
         Action::Press => press_bytes(table, set, key, form),

@@ -12,17 +12,17 @@ use lib.Seq.{set-set, set-comm, set-getD}
 use Rattle.keys.specs.Keys.{lastKey}
 use Rattle.codes.specs.declared.Action.{Action}
 use Rattle.codes.specs.declared.Action.the-variants.{Press, Release, Repeat}
-use Rattle.codes.specs.Codes.{encode, formOf, sendsRelease, mayRepeat}
+use Rattle.codes.specs.Codes.{encode}
 use Rattle.reader.specs.declared.Event.{Event}
 use Rattle.reader.specs.Reading.{Run}
 use Rattle.roundtrip.specs.Wanted.{wanted}
-use Rattle.roundtrip.proofs.ReadBack.{read-back-form}
+use Rattle.roundtrip.proofs.ReadBack.{read-back-typeless}
 use Rattle.terminal.specs.Terminals.{terminal, hearsAll}
 use Rattle.terminal.proofs.Hearing.{noticedAll, hears-events}
 
 -- What is wanted of a key's bytes is the same in set 2 as in set 1.
 alike : (s : ℕ) → (s ≡ 1) ⊎ (s ≡ 2) → (key : ℕ) (action : Action) (type : ℕ) → wanted s key action type ≡ wanted 1 key action type
-unfolding wanted sendsRelease mayRepeat
+unfolding wanted
 alike s (inl e) key action type = rw e
 alike s (inr e) key Press type = rw e
 alike s (inr e) key Release type = rw e
@@ -38,14 +38,14 @@ module _ (held : List ℕ) (key type : ℕ) where
       (λ n. rw (ne-eqb key 101 n) (sym (set-comm held key 101 1 0 n)))
 
   release-noticed : noticedAll (wanted 1 key Release type) (set held 101 0) ≡ set (set held key 0) 101 0
-  unfolding wanted sendsRelease
+  unfolding wanted
   release-noticed =
       dite (ℕ-discrete key 101)
       (λ e. rw e (sym (set-set held 101 0 0)))
       (λ n. rw (ne-eqb key 101 n) (sym (set-comm held key 101 0 0 n)))
 
   repeat-noticed : getD held key 0 ≡ 1 → noticedAll (wanted 1 key Repeat type) (set held 101 0) ≡ set held 101 0
-  unfolding wanted mayRepeat
+  unfolding wanted
   repeat-noticed down =
       let still : set held key 1 ≡ held = rw down at (set-getD held key 0) in
       dite (ℕ-discrete key 101)
@@ -56,10 +56,9 @@ module _ (s : ℕ) (h : (s ≡ 1) ⊎ (s ≡ 2)) (key : ℕ) (low : 1 ≤ key) (
     (held : List ℕ) where
   heard : (action : Action) (down : List ℕ)
       → hearsAll s (terminal 0 down) (encode s key action type modifiers lock) ≡ terminal 0 (noticedAll (wanted 1 key action type) down)
-  unfolding encode
   heard action down =
       hears-events s 0 down _
-      ∙ ap (λ (r : Run). terminal (r .state) (noticedAll (r .events) down)) (read-back-form key low high action s h type (formOf s key modifiers lock))
+      ∙ ap (λ (r : Run). terminal (r .state) (noticedAll (r .events) down)) (read-back-typeless key low high action s h type modifiers lock)
       ∙ ap (λ (events : List Event). terminal 0 (noticedAll events down)) (alike s h key action type)
 
   pub press-heard : hearsAll s (terminal 0 (set held 101 0)) (encode s key Press type modifiers lock)

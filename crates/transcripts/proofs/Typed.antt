@@ -29,10 +29,10 @@ use Rattle.dock.specs.Swap.{opened, remapped, swapped, swapOf}
 use Rattle.dock.specs.Frame.{tookFrame, frameOf}
 use Rattle.dock.specs.Read.{remembering, replyTaken, keyByteTaken, read, readOf}
 use Rattle.runs.specs.Stories.{host, nothing, showing, showingToo}
-use Rattle.runs.specs.Told.{twelve}
+use Rattle.runs.specs.Told.{twelve, mediaPanel}
 use Rattle.runs.specs.Bytes.{keyBytesOf}
 use Rattle.transcripts.specs.Transcripts.{reached, gives, comeOut}
-use Rattle.transcripts.specs.Typed.{typed, rightShift, rightShiftInSet1, underNumLock, printForms, ctrlPauseStruck, resetForgetsShift, overrunForgetsShift, defaultKeepsShift, markInSet1, typesInSet3, otherIndicators}
+use Rattle.transcripts.specs.Typed.{typed, rightShift, rightShiftInSet1, underNumLock, printForms, ctrlPauseStruck, resetForgetsShift, overrunForgetsShift, defaultKeepsShift, markInSet1, typesInSet3, mediaPlain, mediaInSet1, mediaInSet3, mediaLeavesInSet3, sixteen, mediaMarksNothing, otherIndicators}
 
 pub all-typed : comeOut keyBytesOf typed ≡ true
 unfolding
@@ -52,7 +52,8 @@ unfolding
     isIn hasDouble
     closing listening isCounted counting changed repeating heardScan scanned scanOf opened remapped swapped swapOf tookFrame
     frameOf remembering replyTaken keyByteTaken read readOf
-    reached gives comeOut host nothing showing showingToo twelve
+    reached gives comeOut host nothing showing showingToo twelve mediaPanel
     typed rightShift rightShiftInSet1 underNumLock printForms ctrlPauseStruck
     resetForgetsShift overrunForgetsShift defaultKeepsShift markInSet1 typesInSet3 otherIndicators
+    mediaPlain mediaInSet1 mediaInSet3 mediaLeavesInSet3 sixteen mediaMarksNothing
 all-typed = refl

@@ -1,8 +1,12 @@
 -- What the terminal is sent: forms, marks and types, in transcripts from power-on (docs/RULES.md, sections 3, 5, 7 and 11). On a plain
 -- panel SHIFT_L is row 1 of column 5, UP row 0 of column 8, and PAUSE row 4 of column 12. Assumes nothing.
 use mathlib.Core.List.{List, [], _∷_, _++_}
+use Prim.Native.Nat.{ℕ}
+use lib.ListN.{set}
+use Rattle.record.specs.Power.{plainMap}
+use Rattle.dock.specs.Calls.{Swap}
 use Rattle.runs.specs.Stories.{reads, host, scans, nothing, showing, showingToo}
-use Rattle.runs.specs.Told.{twelve}
+use Rattle.runs.specs.Told.{twelve, mediaPanel}
 use Rattle.transcripts.specs.Transcripts.{Transcript, transcript}
 
 -- The right SHIFT, row 4 of column 6, wraps with its own code.
@@ -75,6 +79,44 @@ typesInSet3 =
     (scans 3 (showing 3 0x20) ++ reads 1 ++ scans 3 nothing ++ reads 1 ++ host 0xf8 ++ scans 3 (showing 3 0x20) ++ reads 1 ++ scans 3 nothing ++ reads 2 ++ host 0xfd ++ host 0x1c ++ scans 3 (showing 3 0x20) ++ reads 1 ++ scans 3 nothing ++ reads 1 ++ host 0xfa ++ scans 3 (showing 3 0x20) ++ reads 1 ++ scans 3 nothing ++ reads 2)
     (0x1c ∷ 0x1c ∷ 0xf0 ∷ 0x1c ∷ 0x1c ∷ 0x1c ∷ 0xf0 ∷ 0x1c ∷ [])
 
+-- A media key, here WWW-BACK in the place of the 2, follows neither SHIFT nor Num Lock.
+unfoldable pub mediaPlain : Transcript
+mediaPlain =
+    transcript (reads 1 ++ host 0xed ++ host 2 ++ Swap mediaPanel ∷ [])
+    (scans 3 (showing 5 2) ++ reads 1 ++ scans 3 (showingToo 0 4 (showing 5 2)) ++ reads 2 ++ scans 3 (showing 5 2) ++ reads 3)
+    (0x12 ∷ 0xe0 ∷ 0x38 ∷ 0xe0 ∷ 0xf0 ∷ 0x38 ∷ [])
+
+unfoldable pub mediaInSet1 : Transcript
+mediaInSet1 =
+    transcript (reads 1 ++ host 0xf0 ++ host 1 ++ Swap mediaPanel ∷ [])
+    (scans 3 (showing 0 4) ++ reads 2 ++ scans 3 nothing ++ reads 2)
+    (0xe0 ∷ 0x6a ∷ 0xe0 ∷ 0xea ∷ [])
+
+-- In set 3 it sends nothing, though FA was to make all keys send presses and releases. Pressed there and released in set 2, it sends its
+-- release; pressed in set 2 and released in set 3, its press.
+unfoldable pub mediaInSet3 : Transcript
+mediaInSet3 =
+    transcript (reads 1 ++ host 0xf0 ++ host 3 ++ host 0xfa ++ Swap mediaPanel ∷ [])
+    (scans 3 (showing 0 4) ++ scans 3 nothing ++ scans 3 (showing 0 4) ++ reads 1 ++ host 0xf0 ++ host 2 ++ scans 3 nothing ++ reads 3 ++ scans 3 (showing 0 4) ++ reads 2 ++ host 0xf0 ++ host 3 ++ scans 3 nothing ++ reads 1)
+    (0xe0 ∷ 0xf0 ∷ 0x38 ∷ 0xe0 ∷ 0x38 ∷ [])
+
+-- A swap in set 3 has nothing to release of it: the 5, row 5 of column 0, is typed on the next panel at once.
+unfoldable pub mediaLeavesInSet3 : Transcript
+mediaLeavesInSet3 =
+    transcript (reads 1 ++ host 0xf0 ++ host 3 ++ host 0xfa ++ Swap mediaPanel ∷ [])
+    (scans 3 (showing 0 4) ++ Swap plainMap ∷ scans 3 (showing 0 0x20) ++ reads 2)
+    (0x2e ∷ [])
+
+-- Sixteen keys fill the queue of set 3. A media key, row 0 of column 9, leaves no mark there.
+unfoldable pub sixteen : List ℕ
+sixteen = showingToo 8 1 (showingToo 7 1 (showingToo 6 1 (showingToo 5 1 twelve)))
+
+unfoldable pub mediaMarksNothing : Transcript
+mediaMarksNothing =
+    transcript (reads 1 ++ host 0xf0 ++ host 3 ++ Swap (set plainMap 72 105) ∷ [])
+    (scans 3 sixteen ++ scans 3 (showingToo 9 1 sixteen) ++ reads 17)
+    (0x0e ∷ 0x16 ∷ 0x1e ∷ 0x26 ∷ 0x25 ∷ 0x2e ∷ 0x36 ∷ 0x3d ∷ 0x3e ∷ 0x1d ∷ 0x4d ∷ 0x2b ∷ 0x5a ∷ 0x3a ∷ 0x39 ∷ 0x63 ∷ [])
+
 -- Scroll and Caps are not Num Lock.
 unfoldable pub otherIndicators : Transcript
 otherIndicators =
@@ -85,4 +127,4 @@ otherIndicators =
 -- All of them.
 unfoldable pub typed : List Transcript
 typed =
-    rightShift ∷ rightShiftInSet1 ∷ underNumLock ∷ printForms ∷ ctrlPauseStruck ∷ resetForgetsShift ∷ overrunForgetsShift ∷ defaultKeepsShift ∷ markInSet1 ∷ typesInSet3 ∷ otherIndicators ∷ []
+    rightShift ∷ rightShiftInSet1 ∷ underNumLock ∷ printForms ∷ ctrlPauseStruck ∷ resetForgetsShift ∷ overrunForgetsShift ∷ defaultKeepsShift ∷ markInSet1 ∷ typesInSet3 ∷ mediaPlain ∷ mediaInSet1 ∷ mediaInSet3 ∷ mediaLeavesInSet3 ∷ mediaMarksNothing ∷ otherIndicators ∷ []

@@ -51,10 +51,10 @@ use Rattle.basics.proofs.Flags.{left-of-both, right-of-both}
 use Rattle.keys.specs.Named.{pauseKey}
 use Rattle.runs.specs.Demand.{endOf, ThirdDemand}
 use Rattle.runs.specs.Stories.{host, nothing, showing, showingToo}
-use Rattle.runs.specs.Told.{twelve}
+use Rattle.runs.specs.Told.{twelve, mediaPanel}
 use Rattle.wrong_docks.specs.Breaking.{Wrong, differ, breaks}
 use Rattle.wrong_docks.specs.AtScans.{countsWhileCommandWaits, countsWhileScanningOff, countsDuringHandover, countsPhantoms, countsTwice, phantomNextDoor, twoOpenAreEnough, takesShortScans, phantomBreaksRow, passedOverBreaksRow, handlesFirstScanOnly, deafWhileReplyWaits, deafWhileFull, queueOf15, sendsNothing, repeatGoesOnAfterRelease, repeatsOverrun}
-use Rattle.wrong_docks.specs.AtSwaps.{keepsHeldKeys, forgetsHeldKeys, dropsReleases, swapOverruns, handsWhenEmpty, deafAfterSwap, keepsOldMap, keepsHistory, keepsRepeating, swapClearsQueue, secondSwapIgnored, secondSwapEndsHandover, takesDoubles}
+use Rattle.wrong_docks.specs.AtSwaps.{keepsHeldKeys, forgetsHeldKeys, forgetsMediaKeys, dropsReleases, swapOverruns, handsWhenEmpty, deafAfterSwap, keepsOldMap, keepsHistory, keepsRepeating, swapClearsQueue, secondSwapIgnored, secondSwapEndsHandover, refusesMediaKeys, takesDoubles}
 use Rattle.wrong_docks.specs.AtFrames.{deafAfterIdentify, defaultKeepsTheSet, defaultForgetsHistory, enableForgetsHistory, disableKeepsScanning, indicatorsClear, setNotChosen, questionChooses, questionLeavesWait, wrongValueEndsWait, resendEndsWait, brokenEndsWait, efLeavesWait, resetLosesMap, resetKeepsScanningOff, resetKeepsHistory, framesLeaveHandover, anyParity}
 use Rattle.wrong_docks.specs.AtReads.{readsNothing, oneConstantByte, oneWrongByte}
 use Rattle.wrong_docks.specs.Listed.{twoPressed, swappedPlaces, fifteen, wrongDocks}
@@ -139,15 +139,15 @@ unfolding
     clears isClearing atPowerOn isCountedBy sawScan isMap sawSwap scanningAfter waitingAfter setAfter sawByte
     oneOf numbersFrom inCommon sharesTwo looksPhantom setThreeCodes sets valuesFor waitsForValue lowestFrom findsNoRoom keyLeft
     woken next afterCalls noneHeldFrom mayBegin turningBytes
-    overruns undisturbed endOf host nothing showing showingToo twelve
+    overruns undisturbed endOf host nothing showing showingToo twelve mediaPanel
     saysHeldFrom saysHeld
     breaks twoPressed swappedPlaces fifteen wrongDocks
     countsWhileCommandWaits countsWhileScanningOff countsDuringHandover countsPhantoms countsTwice
     phantomNextDoor twoOpenAreEnough takesShortScans phantomBreaksRow passedOverBreaksRow
     handlesFirstScanOnly deafWhileReplyWaits deafWhileFull queueOf15 sendsNothing
-    repeatGoesOnAfterRelease repeatsOverrun keepsHeldKeys forgetsHeldKeys dropsReleases
+    repeatGoesOnAfterRelease repeatsOverrun keepsHeldKeys forgetsHeldKeys forgetsMediaKeys dropsReleases
     swapOverruns handsWhenEmpty deafAfterSwap keepsOldMap keepsHistory
-    keepsRepeating swapClearsQueue secondSwapIgnored secondSwapEndsHandover takesDoubles
+    keepsRepeating swapClearsQueue secondSwapIgnored secondSwapEndsHandover refusesMediaKeys takesDoubles
     deafAfterIdentify defaultKeepsTheSet defaultForgetsHistory enableForgetsHistory disableKeepsScanning
     indicatorsClear setNotChosen questionChooses questionLeavesWait wrongValueEndsWait resendEndsWait brokenEndsWait
     efLeavesWait resetLosesMap resetKeepsScanningOff resetKeepsHistory framesLeaveHandover

@@ -1,9 +1,9 @@
 -- Docks that are wrong at a swap, or while one is unfinished (docs/RULES.md, section 8). Assumes nothing.
 use Prim.Native.Nat.{ℕ}
 use mathlib.Core.Bool.{Bool, true, false, not}
-use mathlib.Core.List.{List, []}
+use mathlib.Core.List.{List, [], _++_}
 use lib.Dec.{eqb}
-use lib.ListN.{length, replicate}
+use lib.ListN.{length, replicate, take}
 use Rattle.basics.specs.Choice.{pick, both, either}
 use Rattle.basics.specs.Lists.{allUpTo}
 use Rattle.dock.specs.Answers.{taken}
@@ -31,6 +31,12 @@ unfoldable pub forgetsHeldKeys : Machine
 forgetsHeldKeys =
     swappingBy (λ (d : Dock) (map : List ℕ).
     withHandover (withKeys (swapOf d map .dock) (keys (replicate 144 0) (d .rest .outgoing .queue) 0 0)) (d .rest .handover))
+
+-- The same of the media keys alone.
+unfoldable pub forgetsMediaKeys : Machine
+forgetsMediaKeys =
+    swappingBy (λ (d : Dock) (map : List ℕ).
+    let k = keysOf d in swapOf (withKeys d (keys (take 105 (k .held) ++ replicate 39 0) (k .queue) (k .repeating) (k .countdown))) map .dock)
 
 -- The releases that do not fit at once are dropped,
 unfoldable pub dropsReleases : Machine
@@ -102,6 +108,10 @@ unfoldable pub secondSwapEndsHandover : Machine
 secondSwapEndsHandover =
     swappingBy (λ (d : Dock) (map : List ℕ).
     pick (d .rest .handover) (swapOf (withHandover (withKeys d (keys (replicate 144 0) (d .rest .outgoing .queue) 0 0)) false) map .dock) (swapOf d map .dock))
+
+-- A map with a media key is refused.
+unfoldable pub refusesMediaKeys : Machine
+refusesMediaKeys = swappingBy (λ (d : Dock) (map : List ℕ). pick (allUpTo 104 map) (swapOf d map .dock) d)
 
 -- A map with a key twice is taken.
 unfoldable pub takesDoubles : Machine

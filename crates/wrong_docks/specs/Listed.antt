@@ -7,10 +7,10 @@ use Rattle.frames.specs.Frames.{packedOf}
 use Rattle.record.specs.Power.{plainMap}
 use Rattle.dock.specs.Calls.{Call, Swap, Frame}
 use Rattle.runs.specs.Stories.{reads, host, scans, nothing, showing, showingToo}
-use Rattle.runs.specs.Told.{twelve}
+use Rattle.runs.specs.Told.{twelve, mediaPanel}
 use Rattle.wrong_docks.specs.Breaking.{Wrong, wrong}
 use Rattle.wrong_docks.specs.AtScans.{countsWhileCommandWaits, countsWhileScanningOff, countsDuringHandover, countsPhantoms, countsTwice, phantomNextDoor, twoOpenAreEnough, takesShortScans, phantomBreaksRow, passedOverBreaksRow, handlesFirstScanOnly, deafWhileReplyWaits, deafWhileFull, queueOf15, sendsNothing, repeatGoesOnAfterRelease, repeatsOverrun}
-use Rattle.wrong_docks.specs.AtSwaps.{keepsHeldKeys, forgetsHeldKeys, dropsReleases, swapOverruns, handsWhenEmpty, deafAfterSwap, keepsOldMap, keepsHistory, keepsRepeating, swapClearsQueue, secondSwapIgnored, secondSwapEndsHandover, takesDoubles}
+use Rattle.wrong_docks.specs.AtSwaps.{keepsHeldKeys, forgetsHeldKeys, forgetsMediaKeys, dropsReleases, swapOverruns, handsWhenEmpty, deafAfterSwap, keepsOldMap, keepsHistory, keepsRepeating, swapClearsQueue, secondSwapIgnored, secondSwapEndsHandover, refusesMediaKeys, takesDoubles}
 use Rattle.wrong_docks.specs.AtFrames.{deafAfterIdentify, defaultKeepsTheSet, defaultForgetsHistory, enableForgetsHistory, disableKeepsScanning, indicatorsClear, setNotChosen, questionChooses, questionLeavesWait, wrongValueEndsWait, resendEndsWait, brokenEndsWait, efLeavesWait, resetLosesMap, resetKeepsScanningOff, resetKeepsHistory, framesLeaveHandover, anyParity}
 use Rattle.wrong_docks.specs.AtReads.{readsNothing, oneConstantByte, oneWrongByte}
 
@@ -32,6 +32,7 @@ wrongDocks =
     -- At swaps.
     wrong keepsHeldKeys (reads 1) (twoPressed ++ Swap plainMap ∷ reads 2) 3 ∷
     wrong forgetsHeldKeys (reads 1) (twoPressed ++ Swap plainMap ∷ reads 2) 3 ∷
+    wrong forgetsMediaKeys (reads 1) (Swap mediaPanel ∷ scans 3 (showing 0 4) ++ reads 2 ++ Swap plainMap ∷ reads 1) 105 ∷
     wrong dropsReleases (reads 1) (scans 3 twelve ++ reads 12 ++ Swap plainMap ∷ reads 24) 33 ∷
     wrong swapOverruns (reads 1) (scans 3 twelve ++ reads 12 ++ Swap plainMap ∷ reads 24) 33 ∷
     wrong handsWhenEmpty (reads 1)
@@ -44,6 +45,7 @@ wrongDocks =
     wrong swapClearsQueue (reads 1) (twoPressed ++ scans 3 nothing ++ Swap plainMap ∷ reads 2) 3 ∷
     wrong secondSwapIgnored (reads 1) (scans 3 twelve ++ reads 12 ++ Swap plainMap ∷ Swap swappedPlaces ∷ reads 24 ++ twoPressed) 4 ∷
     wrong secondSwapEndsHandover (reads 1) (scans 3 twelve ++ reads 12 ++ Swap plainMap ∷ Swap swappedPlaces ∷ reads 24) 33 ∷
+    wrong refusesMediaKeys (reads 1) (Swap mediaPanel ∷ scans 3 (showing 0 4) ++ reads 2) 105 ∷
     wrong takesDoubles (reads 1) (Swap (set plainMap 3 3) ∷ scans 3 (showing 0 8) ++ reads 1) 4 ∷
     -- At scans.
     wrong countsWhileCommandWaits (reads 1) (host 0xed ++ twoPressed) 3 ∷

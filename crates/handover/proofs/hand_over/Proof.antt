@@ -1,4 +1,4 @@
--- `handover::hand_over` meets its contract. The loop's invariant: key is at most 105, and what is left of the handover is the
+-- `handover::hand_over` meets its contract. The loop's invariant: key is at most 126, and what is left of the handover is the
 -- same handover of the keys as they are, from that key on. The measure is what is left of the keys. Assumes nothing.
 use mathlib.Core.Path.{_≡_, sym, ap, _∙_}
 use mathlib.Core.Logic.{⊎-elim}

@@ -9,7 +9,7 @@ use Rattle.lookup.proofs.Rows.{empty-row}
 use Rattle.lookup.proofs.row_behind_e0_in_set1.Statement.{statement}
 use Rattle.lookup.proofs.row_behind_e0_in_set1.Tie as tie
 
-no-more : valuesBelow (λ (k : ℕ). keysFrom 1 (0xe000 + 8 * (12 + k)) 8) 20 ≡ valuesBelow (λ (k : ℕ). 0) 20
+no-more : valuesBelow (λ (k : ℕ). keysFrom 1 (0xe000 + 8 * (14 + k)) 8) 18 ≡ valuesBelow (λ (k : ℕ). 0) 18
 unfolding keysFrom keyWith firstWith rows
 no-more = refl
 
@@ -30,4 +30,6 @@ row-behind-e0-in-set1-spec =
     (λ c. rw (c .match .keys10) refl)
     (λ c. rw (c .match .keys11) refl)
     (λ c. rw (c .match .keys12) refl)
-    (λ c. empty-row 1 0xe000 12 (c .before .args .byte) (omega arith) no-more (c .match .rest)))
+    (λ c. rw (c .match .keys13) refl)
+    (λ c. rw (c .match .keys14) refl)
+    (λ c. empty-row 1 0xe000 14 (c .before .args .byte) (omega arith) no-more (c .match .rest)))

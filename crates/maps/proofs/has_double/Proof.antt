@@ -1,5 +1,5 @@
 -- `maps::has_double` meets its contract. The loop's invariant: the map has a double if one was met, or if the entries from p on show
--- one, a key that has its mark or one that stands twice among them; there are 105 places for marks, and 0 has none. The measure is what is left of the 144.
+-- one, a key that has its mark or one that stands twice among them; there are 126 places for marks, and 0 has none. The measure is what is left of the 144.
 -- Assumes nothing.
 use Prim.Native.Nat.{suc, _-_, _≤_}
 use mathlib.Core.Path.{_≡_, refl}
