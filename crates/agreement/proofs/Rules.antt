@@ -19,8 +19,7 @@ use Rattle.basics.proofs.Tables.{valuesBelow, alike-below, both-left, both-righ
 use Rattle.host.specs.declared.values.Asked.{Asked}
 use Rattle.host.specs.declared.values.Asked.the-variants.{Indicators, Set, WhichSet, Rate, KeyType, Wrong}
 use Rattle.host.specs.Values.{askedOf, isRight}
-use Rattle.keys.specs.declared.Row.{Row}
-use Rattle.keys.specs.Keys.{rows}
+use Rattle.keys.specs.Keys.{Row, rows}
 use Rattle.lookup.specs.Lookup.{firstWith, keyWith}
 use Rattle.phantom.specs.Phantom.{sharesAny, isPhantom}
 use Rattle.range.specs.Range.{takesValue}

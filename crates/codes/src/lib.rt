@@ -1,7 +1,7 @@
 // The codes of keys (docs/RULES.md, section 3): the bytes that a press, a release or a repeat of a key sends. Here are the definitions and
 // the keys with one form; which form a key takes is in `forms`, and the bytes of any action in `sequences`.
 pub mod bytes; // bytes.rt: bytes put one after another
-pub mod rows; // rows.rt: what a key's row and its type say
+pub mod rows; // rows.rt: what a key's number and its type say
 pub mod plain; // plain.rt: the bytes of an action of a key with one form
 
 // What a key does: an event of the rules. Here it is an action, since the reader's Event is what bytes tell. And a key's type is

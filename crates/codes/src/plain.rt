@@ -2,11 +2,11 @@
 use crate::Action;
 use crate::Sequence;
 use crate::bytes::empty;
-use crate::rows::code_in;
 use crate::rows::has_code;
 use crate::rows::may_repeat;
 use crate::rows::sends_release;
 use keys::Table;
+use keys::code_in;
 ghost use mathlib.Core.Path.{_≡_};
 ghost use mathlib.Core.Bool.{Bool, false};
 ghost use Prim.Native.Nat.{ℕ};

@@ -1,27 +1,10 @@
-// What a key's row and its type say: its code, whether a release is sent, and whether it repeats.
+// What a key's number and its type say: whether it has a code, whether a release is sent, and whether it repeats.
 use keys::FIRST_MEDIA;
 use keys::PAUSE;
-use keys::Table;
 ghost use mathlib.Core.Path.{_≡_};
-ghost use Rattle.keys.specs.Keys.{laidOut, codeIn};
 ghost use Rattle.codes.specs.Codes.{hasCode, sendsRelease, mayRepeat};
 
-// The code of a key by the table: the one place where an action looks into it.
-pub fn code_in(table: &Table, set: u8, key: u8) -> u16
-    requires { ⌜ now table ≡ laidOut ⌝ }
-    ensures { λ r. ⌜ r ≡ codeIn set key ⌝ }
-{
-    let row = keys::row_in(table, key);
-    if set == 1 {
-        return row.0;
-    }
-    if set == 2 {
-        return row.1;
-    }
-    row.2
-}
-
-// The key has a code in the set. By its number and not by the table: whoever asks has no row at hand, and most ask to do without one.
+// The key has a code in the set. By its number and not by the table: most who ask have none at hand, and ask to do without one.
 pub fn has_code(set: u8, key: u8) -> bool
     ensures { λ r. ⌜ r ≡ hasCode set key ⌝ }
 {

@@ -1,11 +1,12 @@
--- What `rowOf` gives: the row at its place in the table that is laid out, and nothing for a number that is no key. Assumes nothing.
+-- The code of a key: that at its place in the table that is laid out, and none for a number that is no key. Assumes nothing.
 use mathlib.Core.Path.{_≡_, refl, sym}
 use mathlib.Core.List.{List, [], _∷_, map}
 use Prim.Native.Nat.{ℕ, zero, suc, _-_, _<_, _≤_}
 use native.Mathlib.Omega.{arith}
+use lib.Dec.{eqb}
 use lib.ListN.{getD, length, List·getD-eq-default}
-use Rattle.keys.specs.declared.Row.{Row}
-use Rattle.keys.specs.Keys.{row, rows, noRow, numbersOf, laidOut, rowOf, lastKey}
+use Rattle.basics.proofs.Cases.{picked}
+use Rattle.keys.specs.Keys.{Row, rows, noRow, codesOf, laidOut, rowOf, rowCode, codeIn, lastKey}
 
 pub no-key : (k : ℕ) → k ≡ 0 → noRow ≡ rowOf k
 unfolding rowOf
@@ -15,11 +16,19 @@ pub past-the-keys : (k : ℕ) → lastKey < k → noRow ≡ rowOf k
 unfolding rowOf rows
 past-the-keys k h = sym (List·getD-eq-default (noRow ∷ rows) noRow {n = k} h)
 
--- A row from its four numbers.
-abbrev rowFrom : List ℕ → Row
-rowFrom l = row (getD l 0 0) (getD l 1 0) (getD l 2 0) (getD l 3 0)
+no-row-code : (set : ℕ) (r : Row) → noRow ≡ r → 0 ≡ rowCode set r
+no-row-code set r e =
+    rw (← e) (picked (λ (code : ℕ). 0 ≡ code) (eqb set 1) 0 _ refl (picked (λ (code : ℕ). 0 ≡ code) (eqb set 2) 0 0 refl refl))
 
-laid-row : (l : List Row) (i : ℕ) → i < length l → rowFrom (getD (map numbersOf l) i []) ≡ getD l i noRow
+pub no-key-code : (set k : ℕ) → k ≡ 0 → 0 ≡ codeIn set k
+unfolding codeIn
+no-key-code set k e = no-row-code set (rowOf k) (no-key k e)
+
+pub past-code : (set k : ℕ) → lastKey < k → 0 ≡ codeIn set k
+unfolding codeIn
+past-code set k h = no-row-code set (rowOf k) (past-the-keys k h)
+
+laid-row : (l : List Row) (i : ℕ) → i < length l → getD (map codesOf l) i [] ≡ codesOf (getD l i noRow)
 laid-row [] i h = absurd (omega arith)
 laid-row (r ∷ l) zero h = refl
 laid-row (r ∷ l) (suc i) h = laid-row l i (omega arith)
@@ -28,7 +37,7 @@ pub rows-length : length rows ≡ lastKey
 unfolding rows
 rows-length = refl
 
-pub at-its-place : (t : List (List ℕ)) (k : ℕ) → t ≡ laidOut → (k ≡ 0 → ⊥) → k ≤ lastKey → rowFrom (getD t (k - 1) []) ≡ rowOf k
+pub at-its-place : (t : List (List ℕ)) (k : ℕ) → t ≡ laidOut → (k ≡ 0 → ⊥) → k ≤ lastKey → getD t (k - 1) [] ≡ codesOf (rowOf k)
 unfolding laidOut rowOf
 at-its-place t zero e n h = absurd (n refl)
 at-its-place t (suc k) e n h =

@@ -5,7 +5,6 @@ use mathlib.Core.List.{List, [], _∷_, map}
 use lib.Dec.{eqb}
 use lib.ListN.{getD}
 use Rattle.basics.specs.Choice.{pick}
-use Rattle.keys.specs.declared.Row.{Row}
 
 -- The types of set 3, numbered in the order of the commands F7 to FA.
 abbrev pub typematic : ℕ
@@ -21,6 +20,9 @@ abbrev pub typematicMakeBreak : ℕ
 typematicMakeBreak = 3
 
 -- A row: the codes of sets 1, 2 and 3, and the type that the key has in set 3 until the host gives it another.
+abbrev pub Row : Type 0
+Row = ℕ × ℕ × ℕ × ℕ
+
 abbrev pub row : ℕ → ℕ → ℕ → ℕ → Row
 row one two three type = (one, two, three, type)
 
@@ -170,13 +172,13 @@ rows =
     media 0xe063 0xe05e ∷  -- 125 WAKE-UP
     []
 
--- A row as the code lays it out: its four numbers.
-abbrev pub numbersOf : Row → List ℕ
-numbersOf r = r .0 ∷ r .1 ∷ r .2 ∷ r .3 ∷ []
+-- A row as the code lays it out: its three codes. Types are laid out by themselves, with the record.
+abbrev pub codesOf : Row → List ℕ
+codesOf r = r .0 ∷ r .1 ∷ r .2 ∷ []
 
 -- The whole table so.
 unfoldable pub laidOut : List (List ℕ)
-laidOut = map numbersOf rows
+laidOut = map codesOf rows
 
 -- The row of a key.
 unfoldable pub rowOf : ℕ → Row

@@ -7,9 +7,8 @@ use native.Mathlib.Omega.{arith}
 use borrow.Author.Tests.{eqb-true}
 use lib.Dec.{eqb}
 use lib.ListN.{getD}
-use Rattle.keys.specs.declared.Row.{Row}
 use Rattle.basics.specs.Choice.{pick}
-use Rattle.keys.specs.Keys.{rows, rowCode, rowOf, noRow, noCode, codeIn}
+use Rattle.keys.specs.Keys.{Row, rows, rowCode, rowOf, noRow, noCode, codeIn}
 use Rattle.lookup.specs.Lookup.{firstWith, keyWith}
 
 -- What is found among these rows, numbered from `key` on, is none or has the code.

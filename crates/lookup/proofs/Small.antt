@@ -6,8 +6,7 @@ use native.Mathlib.Omega.{arith}
 use lib.Dec.{eqb}
 use lib.ListN.{length}
 use Rattle.basics.proofs.Cases.{picked}
-use Rattle.keys.specs.declared.Row.{Row}
-use Rattle.keys.specs.Keys.{rows, rowCode, noCode, lastKey}
+use Rattle.keys.specs.Keys.{Row, rows, rowCode, noCode, lastKey}
 use Rattle.keys.proofs.Laws.{rows-length}
 use Rattle.lookup.specs.Lookup.{firstWith, keyWith}
 

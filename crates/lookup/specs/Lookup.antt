@@ -3,9 +3,8 @@ use Prim.Native.Nat.{ℕ, zero, suc, _+_, _*_, _/_, _%_, _^_}
 use mathlib.Core.Bool.{true, false}
 use mathlib.Core.List.{List, [], _∷_}
 use lib.Dec.{eqb}
-use Rattle.keys.specs.declared.Row.{Row}
 use Rattle.basics.specs.Choice.{pick}
-use Rattle.keys.specs.Keys.{rows, rowCode, noCode}
+use Rattle.keys.specs.Keys.{Row, rows, rowCode, noCode}
 
 -- The first of these rows that has the code in the set, with the rows numbered from `key` on; 0 for none.
 unfoldable pub firstWith : ℕ → ℕ → ℕ → List Row → ℕ

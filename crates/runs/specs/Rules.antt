@@ -7,8 +7,7 @@ use mathlib.Core.List.{List, [], _∷_, map}
 use lib.Dec.{eqb, leb}
 use lib.ListN.{take}
 use Rattle.basics.specs.Choice.{pick, either}
-use Rattle.keys.specs.declared.Row.{Row}
-use Rattle.keys.specs.Keys.{rows}
+use Rattle.keys.specs.Keys.{Row, rows}
 
 -- A number is one of these.
 unfoldable pub oneOf : ℕ → List ℕ → Bool
