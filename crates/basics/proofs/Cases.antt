@@ -1,6 +1,9 @@
 -- A fact of what a test picks, from a fact of each where it is picked. Assumes nothing.
 use mathlib.Core.Path.{_≡_, refl, sym, _∙_}
 use mathlib.Core.Bool.{Bool, true, false, false≢true}
+use Prim.Native.Nat.{ℕ, zero, suc, _≤_}
+use native.Mathlib.Nat.{not-suc-le-zero}
+use native.Mathlib.Omega.{arith}
 use Rattle.basics.specs.Choice.{pick, either}
 
 pub by-cases : {A : Type 0} (P : A → Type 0) (b : Bool) (x y : A) → (b ≡ true → P x) → (b ≡ false → P y) → P (pick b x y)
@@ -42,3 +45,11 @@ neither-first false b e = refl
 pub neither-second : (a b : Bool) → either a b ≡ false → b ≡ false
 neither-second true b e = cc
 neither-second false b e = e
+
+-- What holds of 1, 2 and 3 holds of every number from 1 to 3, as the sets are.
+pub one-to-three : (P : ℕ → Type 0) → P 1 → P 2 → P 3 → (n : ℕ) → 1 ≤ n → n ≤ 3 → P n
+one-to-three P one two three zero low high = absurd (not-suc-le-zero low)
+one-to-three P one two three (suc zero) low high = one
+one-to-three P one two three (suc (suc zero)) low high = two
+one-to-three P one two three (suc (suc (suc zero))) low high = three
+one-to-three P one two three (suc (suc (suc (suc n)))) low high = absurd (omega arith)

@@ -3,13 +3,13 @@ use mathlib.Core.Path.{_≡_, refl, sym, subst}
 use mathlib.Core.Bool.{Bool, true, false, not}
 use mathlib.Core.Logic.{_⊎_, inl, inr}
 use mathlib.Core.List.{List, [], _∷_, _++_}
-use Prim.Native.Nat.{ℕ, zero, suc, _<_, _≤_}
-use native.Mathlib.Nat.{not-suc-le-zero}
+use Prim.Native.Nat.{ℕ, _<_, _≤_}
 use native.Mathlib.Omega.{arith}
 use lib.Dec.{T, eqb, leb, leb→le}
 use Rattle.basics.specs.Choice.{both, either, between}
 use Rattle.basics.specs.Lists.{same}
 use Rattle.basics.proofs.Tables.{allBelow, below, passed, both-left, both-right}
+use Rattle.basics.proofs.Cases.{one-to-three}
 use Rattle.basics.proofs.Sameness.{same-is}
 use Rattle.keys.specs.Keys.{rows, rowOf, codeIn, lastKey}
 use Rattle.lookup.specs.Lookup.{keyWith, firstWith}
@@ -66,17 +66,11 @@ in-set-3 = tt
 
 at : (set state byte : ℕ) → 1 ≤ set → set ≤ 3 → state ≤ 14 → byte < 256 → T (rightAt set state byte)
 unfolding everywhere
-at set state byte low high s b = each set low high
+at set state byte low high s b =
+    one-to-three (λ (n : ℕ). T (rightAt n state byte)) (from 1 in-set-1) (from 2 in-set-2) (from 3 in-set-3) set low high
   where
     from : (n : ℕ) → T (everywhere n) → T (rightAt n state byte)
     from n t = below (rightAt n state) 256 (below (λ st. allBelow (rightAt n st) 256) 15 t state (omega arith)) byte b
-
-    each : (n : ℕ) → 1 ≤ n → n ≤ 3 → T (rightAt n state byte)
-    each zero l h = absurd (not-suc-le-zero l)
-    each (suc zero) l h = from 1 in-set-1
-    each (suc (suc zero)) l h = from 2 in-set-2
-    each (suc (suc (suc zero))) l h = from 3 in-set-3
-    each (suc (suc (suc (suc n)))) l h = absurd (omega arith)
 
 -- A test that a set is not 3, passed.
 not-3 : (set : ℕ) → T (not (eqb set 3)) → set ≡ 3 → ⊥

@@ -9,6 +9,7 @@ use native.Mathlib.Omega.{arith}
 use lib.ListN.{getD}
 use Rattle.basics.specs.Choice.{pick}
 use Rattle.basics.specs.Lists.{mapFrom}
+use Rattle.basics.proofs.Cases.{one-to-three}
 use Rattle.basics.proofs.Tables.{at-each-place}
 use Rattle.keys.specs.Keys.{rows, rowOf, noRow, codeIn, lastKey}
 use Rattle.keys.proofs.Laws.{rows-length}
@@ -120,8 +121,6 @@ module _ (key : ℕ) (low : 1 ≤ key) (high : key ≤ lastKey) (action : Action
   pub read-back : (set type modifiers : ℕ) (lock : Bool) → 1 ≤ set → set ≤ 3 → type ≤ 3
       → readAll set 0 (encode set key action type modifiers lock) ≡ noting (wanted set key action type)
   unfolding encode formOf inThree
-  read-back zero type modifiers lock a b h = absurd (not-suc-le-zero a)
-  read-back (suc zero) type modifiers lock a b h = read-back-typeless 1 (inl refl) type modifiers lock
-  read-back (suc (suc zero)) type modifiers lock a b h = read-back-typeless 2 (inr refl) type modifiers lock
-  read-back (suc (suc (suc zero))) type modifiers lock a b h = at-type type h
-  read-back (suc (suc (suc (suc s)))) type modifiers lock a b h = absurd (omega arith)
+  read-back set type modifiers lock low high h =
+      one-to-three (λ (n : ℕ). readAll n 0 (encode n key action type modifiers lock) ≡ noting (wanted n key action type))
+      (read-back-typeless 1 (inl refl) type modifiers lock) (read-back-typeless 2 (inr refl) type modifiers lock) (at-type type h) set low high

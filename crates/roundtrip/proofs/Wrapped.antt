@@ -3,12 +3,12 @@
 use mathlib.Core.Path.{_≡_, refl}
 use mathlib.Core.Bool.{Bool, true, false, not}
 use mathlib.Core.List.{[], _∷_, _++_}
-use Prim.Native.Nat.{ℕ, zero, suc, _<_, _≤_}
-use native.Mathlib.Nat.{not-suc-le-zero}
+use Prim.Native.Nat.{ℕ, _<_, _≤_}
 use native.Mathlib.Omega.{arith}
 use lib.Dec.{T}
 use Rattle.basics.specs.Choice.{pick, both}
 use Rattle.basics.specs.Lists.{same}
+use Rattle.basics.proofs.Cases.{one-to-three}
 use Rattle.basics.proofs.Tables.{allBelow, below, both-left, both-right}
 use Rattle.keys.specs.Keys.{rows, rowOf, codeIn}
 use Rattle.lookup.specs.Lookup.{keyWith, firstWith}
@@ -55,17 +55,11 @@ fine-3 = tt
 
 at : (set state byte : ℕ) → 1 ≤ set → set ≤ 3 → state ≤ 14 → byte < 256 → T (fineAt set state byte)
 unfolding fine
-at set state byte low high s b = each set low high
+at set state byte low high s b =
+    one-to-three (λ (n : ℕ). T (fineAt n state byte)) (from 1 fine-1) (from 2 fine-2) (from 3 fine-3) set low high
   where
     from : (n : ℕ) → T (fine n) → T (fineAt n state byte)
     from n t = below (fineAt n state) 256 (below (λ st. allBelow (fineAt n st) 256) 15 t state (omega arith)) byte b
-
-    each : (n : ℕ) → 1 ≤ n → n ≤ 3 → T (fineAt n state byte)
-    each zero l h = absurd (not-suc-le-zero l)
-    each (suc zero) l h = from 1 fine-1
-    each (suc (suc zero)) l h = from 2 fine-2
-    each (suc (suc (suc zero))) l h = from 3 fine-3
-    each (suc (suc (suc (suc n)))) l h = absurd (omega arith)
 
 module _ (set state byte : ℕ) (low : 1 ≤ set) (high : set ≤ 3) (s : state ≤ 14) (b : byte < 256) where
   pub overrun-at-the-mark : isOverrun (readByte set state byte .event) ≡ isMark set byte

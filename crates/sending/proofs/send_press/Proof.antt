@@ -19,8 +19,8 @@ returns c =
     let s = c .before .before .before in
     let a = s .args in
     nothing-queued (a .bytes .now) (a .at) (a .mode) _ (s .pre .tidied) (s .pre .places)
-    (uncoded-none (a .mode .set) (a .key) Press (a .kind) (modifiersOf (a .held .now)) (numLock (a .mode .indicators))
-    (refused (c .before .has-code .ensures) (c .if2 .taken)))
+    (uncoded-none (a .mode .set) (a .key) (a .kind) (refused (c .before .has-code .ensures) (c .if2 .taken)) Press (modifiersOf (a .held .now))
+    (numLock (a .mode .indicators)))
 
 mark-last-requires : tie.Need-mark-last-requires
 mark-last-requires c κs =

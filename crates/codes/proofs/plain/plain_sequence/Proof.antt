@@ -9,7 +9,7 @@ use Rattle.codes.proofs.plain.plain_sequence.Tie as tie
 returns : tie.Need-returns
 returns c = λ modifiers lock.
     let a = c .before .before .before .args in
-    rw (uncoded-none (a .set) (a .key) (a .action) (a .kind) modifiers lock (refused (c .before .before .has-code .ensures) (c .before .if1 .taken)))
+    rw (uncoded-none (a .set) (a .key) (a .kind) (refused (c .before .before .has-code .ensures) (c .before .if1 .taken)) (a .action) modifiers lock)
     (c .empty .ensures)
 
 returns-2 : tie.Need-returns-2
