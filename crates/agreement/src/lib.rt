@@ -3,3 +3,4 @@
 // built in steps: Ready (map, contacts and held keys fit the scans), Settled (and an open handover leaves more than half the queue
 // waiting), Sound (and the record is in its range, and what the onlooker knows is so), Steady (and the replies have their places).
 // Follows is what is true of the terminal, InStep that it reads by the dock's set, too.
+#![tactic(auto)]

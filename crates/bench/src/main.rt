@@ -1,6 +1,8 @@
 // The bench (docs/RULES.md, section 12): lines from standard input go to a dock, and what it answers goes to standard output.
 // What a line does is proved in the crate lines, and which characters are printed for it in printing; here text is read, cut into lines,
 // and written. The dock's record is in range at power-on, and every line leaves it in range: that is proved, so nothing looks at it again.
+#![tactic(auto)]
+
 ghost use Rattle.std.specs.Prelude.{◌≡◌, true, ◌≤◌, length};
 ghost use Rattle.record.specs.InPlace.{dock_in};
 ghost use Rattle.dock.specs.Standing.{Standing};
@@ -11,7 +13,7 @@ use libc::{STDIN_FILENO, STDOUT_FILENO};
 use record::{Dock, Held, Map, Rest, Types};
 
 // What is left of a text after its whole lines were run: the dock, the characters used, and the characters to be printed.
-#[derive(Drop)]
+#[derive(Clone, Copy)]
 struct Ran {
     dock: Dock,
     used: usize,
@@ -19,7 +21,7 @@ struct Ran {
 }
 
 // The same in place: the arrays of the record were lent.
-#[derive(Drop)]
+#[derive(Clone, Copy)]
 struct RanRest {
     rest: Rest,
     used: usize,
@@ -27,7 +29,7 @@ struct RanRest {
 }
 
 // The dock and the characters kept of an unfinished line after what was at hand is used up, and whether more may come.
-#[derive(Drop)]
+#[derive(Clone, Copy)]
 struct Turn {
     dock: Dock,
     kept: usize,

@@ -1,6 +1,8 @@
 // The dock's entry points (docs/RULES.md): the four calls, each for any record at all. A record out of its range is refused before all
 // else (section 9), and a refused call gives the record back as it was. A caller that knows its record to be in range has the calls in
 // place, in `scan`, `swap` and `wire`.
+#![tactic(auto)]
+
 ghost use Rattle.basics.specs.Said.{Answers};
 ghost use Rattle.dock.specs.Answers.{answered_says, taken_says};
 ghost use Rattle.dock.specs.Scan.{scan_of, scan_said};

@@ -1,4 +1,6 @@
 // A key goes down or comes up (docs/RULES.md, sections 5 and 6). The flags of the held keys are lent, and change in place.
+#![tactic(auto)]
+
 ghost use Rattle.std.specs.Prelude.{◌≡◌, true, ◌≤◌, ◌<◌, length};
 ghost use Rattle.basics.specs.Lists.{all_up_to};
 ghost use Rattle.keys.specs.Keys.{laid_out, last_key};

@@ -9,15 +9,15 @@ use lib.Seq.{append_snoc, set-append_seam, take-append_seam}
 use Rattle.codes.specs.declared.Sequence.{Sequence}
 use Rattle.codes.specs.Sequences.{holding, adding}
 
-adding_length : (s : Sequence) (l : List ℕ) → (adding s l).length ≡ s.length + length l
+adding_length : (l : List ℕ) (s : Sequence) → (adding s l).length ≡ s.length + length l
 unfolding adding
-adding_length s [] = sym (add-zero s.length)
-adding_length s (b ∷ l) = adding_length _ l ∙ omega arith
+adding_length [] s = sym (add-zero s.length)
+adding_length (b ∷ l) s = adding_length l _ ∙ omega arith
 
-adding_append : (s : Sequence) (l m : List ℕ) → adding (adding s l) m ≡ adding s (l ++ m)
+adding_append : (l : List ℕ) (s : Sequence) (m : List ℕ) → adding (adding s l) m ≡ adding s (l ++ m)
 unfolding adding
-adding_append s [] m = refl
-adding_append s (b ∷ l) m = adding_append _ l m
+adding_append [] s m = refl
+adding_append (b ∷ l) s m = adding_append l _ m
 
 one_held : (l : List ℕ) (b : ℕ) → length l ≤ 7 → adding (holding l) (b ∷ []) ≡ holding (l ++ b ∷ [])
 unfolding adding holding
@@ -34,7 +34,7 @@ adding_holding l (b ∷ m) h =
 
 -- The same, as the code meets it: what a call gives, from what it was given.
 pub joined : (s t r : Sequence) (l m : List ℕ) → t ≡ adding s l → r ≡ adding t m → r ≡ adding s (l ++ m)
-joined s t r l m d e = e ∙ rw d (adding_append s l m)
+joined s t r l m d e = e ∙ rw d (adding_append l s m)
 
 pub filled : (s r : Sequence) (l : List ℕ) → length l ≤ 8 → s ≡ holding [] → r ≡ adding s l → r ≡ holding l
 filled s r l h d e = e ∙ rw d (adding_holding [] l (omega arith))
@@ -44,7 +44,7 @@ unfolding holding
 none_held s e = rw e
 
 pub room : (s t : Sequence) (l : List ℕ) (n : ℕ) → length l ≤ n → t ≡ adding s l → t.length ≤ s.length + n
-room s t l n h e = rw (e, adding_length s l) (omega arith)
+room s t l n h e = rw (e, adding_length l s) (omega arith)
 
 -- For those who take a sequence apart: its length and its bytes.
 pub holding_length : (l : List ℕ) → (holding l).length ≡ length l

@@ -1,12 +1,14 @@
 // The codes of keys (docs/RULES.md, section 3): the bytes that a press, a release or a repeat of a key sends. Here are the definitions and
 // the keys with one form; which form a key takes is in `forms`, and the bytes of any action in `sequences`.
+#![tactic(auto)]
+
 pub mod bytes; // bytes.rt: bytes put one after another
 pub mod rows; // rows.rt: what a key's number and its type say
 pub mod plain; // plain.rt: the bytes of an action of a key with one form
 
 // What a key does: an event of the rules. Here it is an action, since the reader's Event is what bytes tell. And a key's type is
 // called kind, since `type` is a reserved word.
-#[derive(Drop)]
+#[derive(Clone, Copy)]
 pub enum Action {
     Press,
     Release,
@@ -14,7 +16,7 @@ pub enum Action {
 }
 
 // The shape that a key's bytes take by the modifiers and Num Lock.
-#[derive(Drop)]
+#[derive(Clone, Copy)]
 pub enum Form {
     // The code alone.
     Plain,
@@ -29,7 +31,7 @@ pub enum Form {
 }
 
 // The bytes of one action: the first `length` of `bytes`, and zeros behind them.
-#[derive(Drop)]
+#[derive(Clone, Copy)]
 pub struct Sequence {
     pub bytes: [u8; 8],
     pub length: usize,

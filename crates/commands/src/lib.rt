@@ -1,5 +1,7 @@
 // What each command does, and what it is answered with (docs/RULES.md, section 11). In place: the arrays are lent where a command changes them,
 // and the rest of the record is passed.
+#![tactic(auto)]
+
 mod answers; // answers.rt: the bytes that answer a command
 
 ghost use Rattle.record.specs.InPlace.{RestAfter, TypesAfter, ArraysAfter};

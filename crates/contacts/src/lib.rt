@@ -1,4 +1,6 @@
 // Contact history (docs/RULES.md, section 5): a contact turns at the third counted scan in a row that shows it otherwise.
+#![tactic(auto)]
+
 ghost use Rattle.std.specs.Prelude.{◌≡◌, ◌*◌, ◌<◌, length};
 ghost use Rattle.basics.specs.Lists.{all_up_to, same};
 ghost use Rattle.contacts.specs.Counts.{contacts, next_count, next_closed, renewed, column_counts, column_closed, at_rest, counted_of};

@@ -1,4 +1,6 @@
 // Upper-case hexadecimal digits, and the numbers in a line (docs/RULES.md, section 12).
+#![tactic(auto)]
+
 ghost use Rattle.std.specs.Prelude.{◌≡◌, true, ◌+◌, ◌*◌, ◌<◌, length};
 ghost use Rattle.digits.specs.Digits.{is_digit, value_of, all_digits, Digits, byte_at, bytes_from, frame_in, digit_of};
 

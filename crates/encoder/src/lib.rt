@@ -1,4 +1,6 @@
 // The encoder as the outside asks it (docs/RULES.md, sections 3 and 9): with numbers, and with an output that is lent.
+#![tactic(auto)]
+
 ghost use Rattle.std.specs.Prelude.{◌≡◌, ◌≤◌, length};
 ghost use Rattle.basics.specs.Choice.{between};
 ghost use Rattle.encoder.specs.Encoder.{action_of, allowed, Encodes, written_to};
@@ -7,7 +9,7 @@ use codes::{Action, Sequence};
 use sequences::sequence_of;
 
 // What the encoder answers.
-#[derive(Drop)]
+#[derive(Clone, Copy)]
 pub enum Encoded {
     // So many bytes stand at the front of the lent output.
     Written(usize),

@@ -1,4 +1,6 @@
 // Which form a key takes, by the modifiers and Num Lock at that moment (docs/RULES.md, section 3).
+#![tactic(auto)]
+
 ghost use Rattle.std.specs.Prelude.{◌≡◌};
 ghost use Rattle.codes.specs.Codes.{shift_form, cursor_form, print_form, pause_form, form_of, has_forms};
 

@@ -1,10 +1,12 @@
 // Frames (docs/RULES.md, section 2): the eleven bits in which a byte goes over the wire, as a number.
+#![tactic(auto)]
+
 ghost use Rattle.std.specs.Prelude.{◌≡◌};
 ghost use Rattle.basics.specs.Said.{Answers};
 ghost use Rattle.frames.specs.Frames.{parity, packed_of, unpacked_of, unpacked_says, unpacked_said};
 
 // What unpacking a number finds.
-#[derive(Drop)]
+#[derive(Clone, Copy)]
 pub enum Unpacked {
     // A whole frame, and the byte in it.
     Byte(u8),

@@ -1,4 +1,6 @@
 // The keys of a panel that was taken away are released, the lowest first, each as soon as its release fits (docs/RULES.md, section 8).
+#![tactic(auto)]
+
 ghost use Rattle.std.specs.Prelude.{◌≡◌, true, ◌≤◌, ◌<◌};
 ghost use Rattle.queue.specs.Queues.{contents};
 ghost use Rattle.record.specs.Views.{keys_with};

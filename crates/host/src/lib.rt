@@ -1,4 +1,6 @@
 // What the host's bytes do (docs/RULES.md, section 11). In place: the arrays are lent, and only the rest of the record is passed.
+#![tactic(auto)]
+
 ghost use Rattle.std.specs.Prelude.{[], ◌∷◌};
 ghost use Rattle.record.specs.InPlace.{RestAfter, ArraysAfter};
 ghost use Rattle.commands.specs.Commands.{replying};

@@ -13,7 +13,7 @@ use hostbytes::{
 use record::{Mode, Rest, Types};
 
 // What a value asks of the command that waits for it.
-#[derive(Drop)]
+#[derive(Clone, Copy)]
 pub enum Asked {
     // The indicators.
     Indicators(u8),

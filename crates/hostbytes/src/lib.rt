@@ -1,4 +1,5 @@
 // The bytes that the host and the dock say to each other, by the names of the rules (docs/RULES.md, section 11).
+#![tactic(auto)]
 
 // From this one on a byte is a command; below it a byte is a value.
 pub const FIRST_COMMAND: u8 = 0xed;

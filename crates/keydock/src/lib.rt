@@ -1,5 +1,7 @@
 // The C interface without a dock (include/keydock.h): frames, a key's codes and the reader on numbers and bytes alone.
 // Nothing is decided here. Each function asks the part that knows and turns its answer into one number.
+#![tactic(auto)]
+
 ghost use Rattle.std.specs.Prelude.{◌≡◌};
 ghost use Rattle.frames.specs.Frames.{packed_of, unpacked_of};
 ghost use Rattle.encoder.specs.Encoder.{encoded_of, output_of};

@@ -1,4 +1,6 @@
 // Keys as the terminal is told of them (docs/RULES.md, sections 5, 6 and 8): pressed, released, repeated and handed over.
+#![tactic(auto)]
+
 ghost use Rattle.std.specs.Prelude.{ℕ, ◌<◌, ◌≡◌, List};
 ghost use Rattle.queue.specs.Queues.{queue_with};
 ghost use Rattle.keying.specs.Changes.{keys_from, let_go};
@@ -9,14 +11,14 @@ use record::{Held, Outgoing};
 pub mod repeating; // repeating.rt: the key that repeats
 
 // What goes out after a handover went on, and whether it is still open; the flags of the held keys were lent.
-#[derive(Drop)]
+#[derive(Clone, Copy)]
 pub struct HandedRest {
     pub outgoing: Outgoing,
     pub unfinished: bool,
 }
 
 // What goes to the terminal where the bytes that wait are lent: how many of them wait, the key that repeats, and its countdown.
-#[derive(Drop)]
+#[derive(Clone, Copy)]
 pub struct OutgoingRest {
     pub length: u8,
     pub repeating: u8,

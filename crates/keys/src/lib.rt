@@ -1,6 +1,8 @@
 // The key table: what each of the 125 keys is called on the wire (docs/RULES.md, section 1).
 // Whoever wants a code is lent the table, and nothing else names it. Two other parts have tables of their own, which their proofs
 // compute from the rows of the definitions as well: the way back from a code (lookup), and the default types (record::power).
+#![tactic(auto)]
+
 ghost use Rattle.std.specs.Prelude.{◌≡◌};
 ghost use Rattle.keys.specs.Keys.{laid_out, code_in, mark_of};
 

@@ -1,4 +1,6 @@
 // The record as bytes, as a C caller lends it (docs/RECORD.md, "As bytes"): 585 of them, part behind part.
+#![tactic(auto)]
+
 ghost use Rattle.std.specs.Prelude.{◌≡◌, ◌+◌, ◌≤◌, length};
 ghost use Rattle.layout.specs.Layout.{put_at};
 

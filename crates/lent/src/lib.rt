@@ -1,5 +1,7 @@
 // The dock's calls on a record that is lent as bytes (docs/RULES.md, section 14). Bytes that are no record are refused before all else; of
 // a record the parts that a call looks at are copied, the call is made in place on the copies, and those that it can change are put back.
+#![tactic(auto)]
+
 ghost use Rattle.std.specs.Prelude.{◌≡◌};
 ghost use Rattle.dock.specs.Calls.{Scan, Swap, Frame, Read};
 ghost use Rattle.lent.specs.Lent.{answer_number, number_for, bytes_after, power_number, power_bytes, indicators_number, scanning_number};

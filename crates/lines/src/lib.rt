@@ -1,4 +1,6 @@
 // The bench's lines (docs/RULES.md, section 12): what a line asks of the dock, and what is printed for it.
+#![tactic(auto)]
+
 ghost use Rattle.std.specs.Prelude.{◌≡◌, true};
 ghost use Rattle.basics.specs.Said.{Answers};
 ghost use Rattle.dock.specs.Standing.{Standing};
@@ -19,14 +21,14 @@ use record::{Dock, Held, Map, Rest, Types};
 use text::Kind;
 
 // The record after a line, and what the line prints.
-#[derive(Drop)]
+#[derive(Clone, Copy)]
 pub struct Stepped {
     pub dock: Dock,
     pub printed: Printed,
 }
 
 // The same in place: the arrays were lent.
-#[derive(Drop)]
+#[derive(Clone, Copy)]
 pub struct SteppedRest {
     pub rest: Rest,
     pub printed: Printed,

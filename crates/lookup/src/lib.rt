@@ -1,4 +1,6 @@
 // Which key has a code (docs/RULES.md, section 1): the key table read backwards, so that nobody has to search it.
+#![tactic(auto)]
+
 ghost use Rattle.std.specs.Prelude.{◌≡◌, ◌+◌};
 ghost use Rattle.lookup.specs.Lookup.{key_with, row_of, entry_of};
 

@@ -1,4 +1,6 @@
 // Panel maps (docs/RULES.md, sections 5 and 9): does a key stand twice, and a lent map copied.
+#![tactic(auto)]
+
 ghost use Rattle.std.specs.Prelude.{◌≡◌, true, length};
 ghost use Rattle.basics.specs.Lists.{all_up_to};
 ghost use Rattle.keys.specs.Keys.{last_key};

@@ -6,6 +6,8 @@
 //   row b     o----------o
 //
 // So a scan in which two columns have two rows in common is not to be believed.
+#![tactic(auto)]
+
 ghost use Rattle.std.specs.Prelude.{◌≡◌, ℕ, ◌≤◌, length, slice_index};
 ghost use Rattle.phantom.specs.Phantom.{two_closed, is_phantom, any_two_closed, shares_at};
 

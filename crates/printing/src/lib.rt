@@ -1,11 +1,13 @@
 // What the bench prints for an answer, and the characters of it (docs/RULES.md, section 12).
+#![tactic(auto)]
+
 ghost use Rattle.std.specs.Prelude.{◌≡◌, ◌≤◌, ◌+◌, length};
 ghost use Rattle.printing.specs.Printing.{answer_prints, read_prints, characters, written_at};
 
 use dock::{Answer, Given};
 
 // What a line prints.
-#[derive(Drop)]
+#[derive(Clone, Copy)]
 pub enum Printed {
     // Nothing.
     Silence,

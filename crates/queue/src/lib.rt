@@ -1,11 +1,13 @@
 // Bytes that wait to be read (docs/RULES.md, section 7): first in, first out, 16 at most.
+#![tactic(auto)]
+
 ghost use Rattle.std.specs.Prelude.{◌≡◌, true, [], ◌≤◌, length, drop};
 ghost use Rattle.queue.specs.Queues.{queue_with, waiting, queue_of, tidy, contents, room_for, last_replaced, pushed_to};
 
 use codes::Sequence;
 
 // The first `length` of `bytes` wait, the oldest in front; zeros stand behind them.
-#[derive(Drop)]
+#[derive(Clone, Copy)]
 pub struct Queue {
     pub bytes: [u8; 16],
     pub length: usize,

@@ -1,5 +1,7 @@
 // Is every part of a record in its range (docs/RECORD.md). The loops keep a flag and run to their ends, so that the compiler takes sixteen entries at a time;
 // the tests are joined by `&` and `|`, so that there is one way through.
+#![tactic(auto)]
+
 ghost use Rattle.std.specs.Prelude.{◌≡◌};
 ghost use Rattle.basics.specs.Lists.{all_up_to};
 ghost use Rattle.range.specs.Range.{good_mode, good_outgoing, good_rest, takes_value, in_range};

@@ -1,4 +1,6 @@
 // The reader (docs/RULES.md, section 4): what the terminal finds in key bytes, one byte at a time.
+#![tactic(auto)]
+
 mod steps; // steps.rt: how a sequence goes on, and how it ends
 mod set1; // set1.rt: the bytes of set 1
 mod set2; // set2.rt: the bytes of set 2
@@ -15,7 +17,7 @@ use set3::read3;
 use steps::end;
 
 // What a byte tells.
-#[derive(Drop)]
+#[derive(Clone, Copy)]
 pub enum Event {
     // The sequence is not at its end.
     More,
@@ -38,14 +40,14 @@ pub enum Event {
 }
 
 // The reader's answer: what the byte tells, and the state in which the next byte is to be read.
-#[derive(Drop)]
+#[derive(Clone, Copy)]
 pub struct Answer {
     pub state: u32,
     pub event: Event,
 }
 
 // A press taken out of an answer: the key, 0 for none, the next state, and the number of a refusal, 0 for none.
-#[derive(Drop)]
+#[derive(Clone, Copy)]
 pub struct Press {
     pub state: u32,
     pub key: u8,

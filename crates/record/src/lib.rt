@@ -1,5 +1,7 @@
 // The dock's record (docs/RULES.md, sections 5 to 8 and 11; docs/RECORD.md lists the range of every part), as the calls lend it: five
 // arrays, and the rest by value.
+#![tactic(auto)]
+
 use contacts::{Columns, Counts};
 use queue::Queue;
 use replies::Replies;
@@ -17,7 +19,7 @@ pub type Held = [u8; 144];
 pub type Types = [u8; keys::PLACES];
 
 // What the host has chosen.
-#[derive(Drop)]
+#[derive(Clone, Copy)]
 pub struct Mode {
     pub set: u8, // 1 to 3
     pub rate: u8, // repeat rate and delay, as F3 gives them: 0 to 127
@@ -25,7 +27,7 @@ pub struct Mode {
 }
 
 // What goes to the terminal.
-#[derive(Drop)]
+#[derive(Clone, Copy)]
 pub struct Outgoing {
     pub queue: Queue, // the key bytes that wait
     pub repeating: u8, // the key that repeats, 0 for none
@@ -33,7 +35,7 @@ pub struct Outgoing {
 }
 
 // All but the arrays.
-#[derive(Drop)]
+#[derive(Clone, Copy)]
 pub struct Rest {
     pub outgoing: Outgoing,
     pub mode: Mode,
@@ -45,7 +47,7 @@ pub struct Rest {
 }
 
 // All that the dock knows.
-#[derive(Drop)]
+#[derive(Clone, Copy)]
 pub struct Dock {
     pub map: Map, // the key at each position, 0 for none
     pub closed: Columns, // the contacts as they count

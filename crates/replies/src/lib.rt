@@ -1,9 +1,11 @@
 // The replies that wait (docs/RULES.md, section 11): three at most, because nothing is answered with more.
+#![tactic(auto)]
+
 ghost use Rattle.std.specs.Prelude.{◌≡◌, true, [], ◌∷◌, ◌≤◌, drop};
 ghost use Rattle.replies.specs.Replies.{waiting_replies, replies_of, tidy_replies};
 
 // The first `length` of `bytes` wait, the oldest in front, and zeros stand behind them.
-#[derive(Drop)]
+#[derive(Clone, Copy)]
 pub struct Replies {
     pub bytes: [u8; 3],
     pub length: u8,

@@ -1,4 +1,6 @@
 // A scan of the panel, in place (docs/RULES.md, sections 5 and 6): the record is in its range, its arrays are lent, and only the rest is passed.
+#![tactic(auto)]
+
 ghost use Rattle.std.specs.Prelude.{◌≡◌, true, List, ℕ, length};
 ghost use Rattle.record.specs.declared.Dock.{Dock};
 ghost use Rattle.record.specs.Parts.{dock_with};

@@ -1,4 +1,6 @@
 // What a key sends as things stand, and how it is queued (docs/RULES.md, sections 3 and 7).
+#![tactic(auto)]
+
 ghost use Rattle.std.specs.Prelude.{◌≡◌, true, not, ◌+◌, ◌*◌, ◌≤◌, ◌<◌, length, get_or};
 ghost use Rattle.basics.specs.Choice.{both, either};
 ghost use Rattle.codes.specs.declared.Action.TheVariants.{Press, Release};

@@ -1,4 +1,6 @@
 // The bytes of an action of any key (docs/RULES.md, section 3).
+#![tactic(auto)]
+
 mod wraps; // wraps.rt: what a wrapping sends around a key
 
 ghost use Rattle.std.specs.Prelude.{◌≡◌, ◌++◌, ℕ, ◌≤◌};

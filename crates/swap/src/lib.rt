@@ -1,4 +1,6 @@
 // Another panel, in place (docs/RULES.md, section 8): the record is in its range, its arrays are lent, and only the rest is passed.
+#![tactic(auto)]
+
 ghost use Rattle.std.specs.Prelude.{◌≡◌, true, List, ℕ};
 ghost use Rattle.record.specs.declared.Dock.{Dock};
 ghost use Rattle.record.specs.Parts.{dock_with};

@@ -1,11 +1,13 @@
 // The bench's text (docs/RULES.md, section 12): where a line ends, and what kind it is.
+#![tactic(auto)]
+
 ghost use Rattle.std.specs.Prelude.{◌≡◌, ◌≤◌, ◌+◌, length};
 ghost use Rattle.text.specs.Lines.{kind_of, newline_among, ends_after, line_end};
 
 use digits::all_digits;
 
 // What a line can be.
-#[derive(Drop)]
+#[derive(Clone, Copy)]
 pub enum Kind {
     // Nothing in it.
     Read,
