@@ -28,6 +28,7 @@ pub fn sends_release(set: u8, kind: u8) -> bool
 }
 
 // A key of this type repeats while it is held.
+#[tactic(auto, unfolding(crate::specs::Codes::may_repeat))]
 pub fn may_repeat(set: u8, key: u8, kind: u8) -> bool
     ensures { result ≡ may_repeat set key kind }
 {
