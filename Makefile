@@ -34,4 +34,4 @@ speed:
 	@scripts/speed
 
 clean:
-	rm -rf build target
+	rm -rf build crates/*/out

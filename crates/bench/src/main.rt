@@ -9,8 +9,8 @@ ghost use Rattle.dock.specs.Standing.{Standing};
 ghost use Rattle.range.specs.Range.{in_range};
 
 use contacts::{Columns, Counts};
-use libc::{STDIN_FILENO, STDOUT_FILENO};
 use record::{Dock, Held, Map, Rest, Types};
+use std::io::{Print, Read, Stdin, Stdout};
 
 // What is left of a text after its whole lines were run: the dock, the characters used, and the characters to be printed.
 #[derive(Clone, Copy)]
@@ -136,7 +136,7 @@ fn keep(input: &mut [u8], from: usize, end: usize) -> usize
 }
 
 // Runs what is at hand: the characters kept, and those that came after them.
-fn work(before: Dock, input: &mut [u8], out: &mut [u8], end: usize) -> Turn
+fn work(stdout: &Stdout, before: Dock, input: &mut [u8], out: &mut [u8], end: usize) -> Turn
     requires { record { range : in_range before ≡ true; inside : end ≤ 16384; size : length input.old ≡ 16384; room : length out.old ≡ 65536 } }
     ensures { (result.kept ≤ 289) × (in_range result.dock ≡ true) }
 {
@@ -144,18 +144,18 @@ fn work(before: Dock, input: &mut [u8], out: &mut [u8], end: usize) -> Turn
     let dock = ran.dock;
     let used = ran.used;
     let written = ran.written;
-    let going = io::write_all(STDOUT_FILENO, &out[..written]);
+    let going = stdout.write_all(&out[..written]).is_ok();
     let kept = keep(input, used, end);
     Turn { dock, kept, going }
 }
 
 // The end of what is at hand after a read: where nothing comes any more, a last line that is not empty gets its newline.
-fn end_after(input: &mut [u8], kept: usize, got: isize) -> usize
+fn end_after(input: &mut [u8], kept: usize, got: usize) -> usize
     requires { (kept ≤ 289) × (length input.old ≡ 16384) }
     ensures { result ≤ 16384 }
 {
     if 0 < got {
-        return kept + io::count(got, &input[kept..]);
+        return kept + got.min(input.len() - kept);
     }
     if kept == 0 {
         return 0;
@@ -165,26 +165,33 @@ fn end_after(input: &mut [u8], kept: usize, got: isize) -> usize
 }
 
 // Reads once, and runs what came. When nothing comes any more, the last line was run.
-fn next(dock: Dock, input: &mut [u8], out: &mut [u8], kept: usize) -> Turn
+fn next(
+    stdin: &mut Stdin,
+    stdout: &Stdout,
+    dock: Dock,
+    input: &mut [u8],
+    out: &mut [u8],
+    kept: usize,
+) -> Turn
     requires { (in_range dock ≡ true) × (kept ≤ 289) × (length input.old ≡ 16384) × (length out.old ≡ 65536) }
     ensures { (result.kept ≤ 289) × (in_range result.dock ≡ true) }
 {
-    let got = libc::read(STDIN_FILENO, &mut input[kept..]);
+    let got = stdin.read(&mut input[kept..]).unwrap_or(0);
     let end = end_after(input, kept, got);
-    let mut turn = work(dock, input, out, end);
+    let mut turn = work(stdout, dock, input, out, end);
     turn.going = turn.going & (0 < got);
     turn
 }
 
 // Turn after turn. A proved loop has to end, and nothing says that input does: the turns are more than any run uses up.
-fn serve(first: Dock, input: &mut [u8], out: &mut [u8])
+fn serve(stdin: &mut Stdin, stdout: &Stdout, first: Dock, input: &mut [u8], out: &mut [u8])
     requires { (in_range first ≡ true) × (length input.old ≡ 16384) × (length out.old ≡ 65536) }
 {
     let mut dock = first;
     let mut kept: usize = 0;
     let mut turns = u64::MAX;
     while 0 < turns {
-        let turn = next(dock, input, out, kept);
+        let turn = next(stdin, stdout, dock, input, out, kept);
         if !turn.going {
             return;
         }
@@ -194,8 +201,14 @@ fn serve(first: Dock, input: &mut [u8], out: &mut [u8])
     }
 }
 
-fn main() {
+fn main(rt: HostRuntime) {
     let mut input = [0u8; 16384];
     let mut out = [0u8; 65536];
-    serve(record::power::power_on(), &mut input, &mut out);
+    serve(
+        &mut rt.stdin(),
+        &rt.stdout(),
+        record::power::power_on(),
+        &mut input,
+        &mut out,
+    );
 }
