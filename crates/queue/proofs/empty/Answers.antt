@@ -1,12 +1,8 @@
 -- `queue::empty` meets its contract: the definition computes to the same sixteen zeros. Assumes nothing.
 use mathlib.Core.Path.{refl}
 use Rattle.queue.specs.Queues.{queue_of}
-use Rattle.queue.proofs.empty.Statement.{statement}
-use Rattle.queue.proofs.empty.Tie as tie
+use Rattle.queue.proofs.empty.Goals as goal
 
-returns : tie.Need-returns
+pub returns : goal.returns
 unfolding queue_of
 returns c = refl
-
-pub empty_spec : {M : Type 1} → statement M
-empty_spec = tie.close (tie.spec returns)
