@@ -3,14 +3,10 @@ use mathlib.Core.Path.{◌≡◌}
 use borrow.Author.Rules.{rules}
 use lib.ListN.{length}
 use Rattle.replies.proofs.ReplyMeaning.{tidy_by_place}
-use Rattle.replies.proofs.is_tidy.Statement.{statement}
-use Rattle.replies.proofs.is_tidy.Tie as tie
+use Rattle.replies.proofs.is_tidy.Goals as goal
 
-returns : tie.Need-returns
+pub returns : goal.returns
 returns c =
-    let r = c.before.before.before.args.t1 in
+    let r = c.args.replies in
     let places : length r.bytes ≡ 3 = search rules in
     tidy_by_place r places
-
-pub is_tidy_spec : {M : Type 1} → statement M
-is_tidy_spec = tie.close (tie.spec (λ c. search rules) (λ c. search rules) (λ c. search rules) returns)
