@@ -41,6 +41,10 @@ past_all : (n k : ℕ) → none_of n k → n ≤ k
 past_all zero k f = omega arith
 past_all (suc n) k f = omega (arith, past_all n k f.0, f.1)
 
+pub past_none : (n k : ℕ) → n ≤ k → none_of n k
+past_none zero k h = tt
+past_none (suc n) k h = (past_none n k (omega arith), λ e. omega arith)
+
 -- There are 32 rows; where those past the first n are empty, a byte in none of the first n has none.
 pub empty_row : (set code n byte : ℕ) → byte < 256 → values_below (λ (k : ℕ). keys_from set (code + 8 * (n + k)) 8) (32 - n) ≡ values_below (λ (k : ℕ). 0) (32 - n)
     → none_of n (byte / 8) → 0 ≡ row_of set code byte
