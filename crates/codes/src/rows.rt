@@ -15,6 +15,7 @@ pub fn has_code(set: u8, key: u8) -> bool
 }
 
 // A release is sent.
+#[tactic(auto, unfolding(crate::specs::Codes::sends_release))]
 pub fn sends_release(set: u8, kind: u8) -> bool
     ensures { result ≡ sends_release set kind }
 {
