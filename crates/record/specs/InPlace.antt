@@ -1,7 +1,7 @@
 -- What a function promises that works on the record in place: some arrays are lent, and the rest goes in and comes back by value.
 -- Assumes nothing.
 use Rattle.std.specs.Prelude.{ℕ, ◌≡◌, List}
-use Rattle.std.specs.Borrow.{Bor}
+use Rattle.std.specs.Borrow.{MutBor}
 use denote.Triple.Both.{Both}
 use Rattle.record.specs.declared.Rest.{Rest}
 use Rattle.record.specs.declared.Dock.{Dock}
@@ -9,7 +9,7 @@ use Rattle.record.specs.Parts.{dock_with}
 
 -- A lent array, and the same at the call (`entry`) and at the return (`exit`).
 abbrev pub Array : Type 0
-Array = Bor (List ℕ)
+Array = MutBor (List ℕ)
 
 abbrev pub Lent : Type 0
 Lent = Both Array Array
