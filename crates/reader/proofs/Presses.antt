@@ -2,6 +2,7 @@
 use Prim.Native.Nat.{ℕ}
 use mathlib.Core.List.{List, [], ◌∷◌}
 use mathlib.Core.Path.{◌≡◌, refl}
+use borrow.Author.Rules.{rules}
 use denote.Enum.Declared.{tag_of}
 use types.Run.{OneOf, miss}
 use Rattle.reader.specs.declared.Event.{Event}
@@ -25,6 +26,18 @@ no_key Overrun n = refl
 no_key Unknown n = refl
 no_key BadState n = refl
 no_key BadSet n = refl
+
+-- What is no press has one of these tags.
+pub unpressed : (e : Event) → ((key : ℕ) → e ≡ Pressed key → ⊥) → OneOf others (tag_of event.the_type e)
+unpressed More n = search rules
+unpressed (Pressed key) n = absurd (n key refl)
+unpressed (Released key) n = search rules
+unpressed PauseStruck n = search rules
+unpressed Wrapping n = search rules
+unpressed Overrun n = search rules
+unpressed Unknown n = search rules
+unpressed BadState n = search rules
+unpressed BadSet n = search rules
 
 module _ (a b : Answer) (same : a ≡ b) where
   pub passed_over : OneOf others (tag_of event.the_type a.event) → (refusal : ℕ) → refusal ≡ (event_says a.event).number

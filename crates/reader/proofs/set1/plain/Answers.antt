@@ -1,0 +1,16 @@
+-- A code of one byte in set 1: PRINT with ALT, else a key of the table. Assumes nothing.
+use borrow.Author.Rules.{rules}
+use Rattle.keys.specs.Keys.{rows, row_of, code_in}
+use Rattle.reader.specs.Reader.{heard}
+use Rattle.reader.proofs.Hearing.{key_heard}
+use Rattle.reader.proofs.set1.plain.Goals as goal
+
+pub returns-in-84 : goal.returns-in-84
+unfolding heard code_in row_of rows
+returns-in-84 c = rw c.in-84.is c.key_moves.ensures
+
+pub returns-in_default : goal.returns-in_default
+unfolding code_in row_of rows
+returns-in_default c =
+    let a = c.args in
+    key_heard 1 a.down a.byte _ _ (search rules) c.in_set1.ensures c.key_moves-in_default.ensures
