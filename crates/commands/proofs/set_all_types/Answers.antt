@@ -2,17 +2,12 @@
 use mathlib.Core.Path.{ap}
 use Prim.Native.Nat.{suc}
 use lib.ListN.{replicate}
-use borrow.Author.Rules.{rules}
 use Rattle.keys.specs.Keys.{last_key}
 use Rattle.record.specs.declared.Dock.{Dock}
 use Rattle.record.specs.Parts.{with_types}
-use Rattle.commands.proofs.set_all_types.Statement.{statement}
-use Rattle.commands.proofs.set_all_types.Tie as tie
+use Rattle.commands.proofs.set_all_types.Goals as goal
 
-returns : tie.Need-returns
+pub returns : goal.returns
 returns c = λ map closed counts held.
-    let a = c.before.args in
+    let a = c.args in
     ap (λ (d : Dock). with_types d (replicate (suc last_key) a.kind)) (c.clear.ensures map closed counts held a.types.now)
-
-pub set_all_types_spec : {M : Type 1} → statement M
-set_all_types_spec = tie.close (tie.spec (λ c κs. search rules) returns)

@@ -2,18 +2,13 @@
 use mathlib.Core.Path.{ap₂}
 use mathlib.Core.List.{List}
 use Prim.Native.Nat.{ℕ}
-use borrow.Author.Rules.{rules}
 use Rattle.record.specs.declared.Dock.{Dock}
 use Rattle.record.specs.Power.{default_rate}
 use Rattle.record.specs.Parts.{with_types, with_mode}
-use Rattle.commands.proofs.set_default.Statement.{statement}
-use Rattle.commands.proofs.set_default.Tie as tie
+use Rattle.commands.proofs.set_default.Goals as goal
 
-returns : tie.Need-returns
+pub returns : goal.returns
 returns c = λ map closed counts held.
-    let a = c.before.before.before.args in
+    let a = c.args in
     ap₂ (λ (d : Dock) (types : List ℕ). with_types (with_mode d (record { set = 2; rate = default_rate; indicators = a.rest.mode.indicators })) types)
-    (c.quieten.ensures map closed counts held a.types.now) c.before.default-types.ensures
-
-pub set_default_spec : {M : Type 1} → statement M
-set_default_spec = tie.close (tie.spec (λ c κs. search rules) (λ c κs. search rules) returns)
+    (c.quieten-after.ensures map closed counts held a.types.now) c.default_types-defaults.ensures
