@@ -1,6 +1,6 @@
 // How every accepted call ends: an open handover goes on.
 ghost use Rattle.std.specs.Prelude.{◌≡◌, true};
-ghost use Rattle.record.specs.InPlace.{HeldAfter};
+ghost use Rattle.record.specs.InPlace.{HeldAfter, kept};
 ghost use Rattle.range.specs.Range.{good_rest};
 ghost use Rattle.dock.specs.Closing.{closing};
 
@@ -9,7 +9,7 @@ use record::{Held, Rest, Types};
 // An open handover goes on: the flags of the held keys are lent. It is apart, so that calls do not pay for it while none is open.
 pub fn go_on(held: &mut Held, types: &Types, rest: Rest) -> Rest
     requires { record { range : good_rest rest ≡ true; handover : rest.handover ≡ true } }
-    ensures { HeldAfter closing held types rest result }
+    ensures { HeldAfter closing held (kept types) rest result }
 {
     let outgoing = rest.outgoing;
     let mode = rest.mode;
@@ -24,7 +24,7 @@ pub fn go_on(held: &mut Held, types: &Types, rest: Rest) -> Rest
 // So an accepted call ends.
 pub fn close_in_place(held: &mut Held, types: &Types, rest: Rest) -> Rest
     requires { good_rest rest ≡ true }
-    ensures { HeldAfter closing held types rest result }
+    ensures { HeldAfter closing held (kept types) rest result }
 {
     if !rest.handover {
         return rest;

@@ -11,7 +11,7 @@ ghost use Rattle.dock.specs.Read.{read};
 ghost use Rattle.digits.specs.Digits.{Digits, bytes_from, frame_in};
 ghost use Rattle.frames.specs.Frames.{unpacked_of};
 ghost use Rattle.record.specs.declared.Dock.{Dock};
-ghost use Rattle.record.specs.InPlace.{dock_in, AllGive, ArraysGive, HeldGive};
+ghost use Rattle.record.specs.InPlace.{dock_in, shown, kept, AllGive, ArraysGive, HeldGive};
 ghost use Rattle.range.specs.Range.{good_rest, in_range};
 ghost use Rattle.lines.specs.Steps.{stepped, stepped_by, stepped_read, step_of, stepped_says, step_said};
 
@@ -44,8 +44,8 @@ fn scan_line(
     rest: Rest,
     line: &[u8],
 ) -> SteppedRest
-    requires { record { standing : Standing (dock_in map closed counts held types rest); line : Digits 36 line.now } }
-    ensures { AllGive (λ (d : Dock). stepped d result.printed) (λ (d : Dock). stepped_by (scan_of d (bytes_from line.now 0 18))) map closed counts held types rest result.rest }
+    requires { record { standing : Standing (dock_in (shown map) closed counts held (shown types) rest); line : Digits 36 line.now } }
+    ensures { AllGive (λ (d : Dock). stepped d result.printed) (λ (d : Dock). stepped_by (scan_of d (bytes_from line.now 0 18))) (kept map) closed counts held (kept types) rest result.rest }
 {
     let scan = digits::scan_in(line);
     let answered = scan::scan_in_place(map, closed, counts, held, types, rest, &scan);
@@ -60,7 +60,7 @@ fn scan_line(
 // An empty line: a read.
 fn read_line(held: &mut Held, types: &Types, rest: Rest) -> SteppedRest
     requires { good_rest rest ≡ true }
-    ensures { HeldGive (λ (d : Dock). stepped d result.printed) (λ (d : Dock). stepped_read (read d)) held types rest result.rest }
+    ensures { HeldGive (λ (d : Dock). stepped d result.printed) (λ (d : Dock). stepped_read (read d)) held (kept types) rest result.rest }
 {
     let answered = wire::read::read_in_place(held, types, rest);
     let after = answered.rest;
@@ -103,8 +103,8 @@ fn map_line(
     rest: Rest,
     line: &[u8],
 ) -> SteppedRest
-    requires { record { range : in_range (dock_in map closed counts held types rest) ≡ true; line : Digits 288 line.now } }
-    ensures { AllGive (λ (d : Dock). stepped d result.printed) (λ (d : Dock). stepped_by (swap_of d (bytes_from line.now 0 144))) map closed counts held types rest result.rest }
+    requires { record { range : in_range (dock_in map closed counts held (shown types) rest) ≡ true; line : Digits 288 line.now } }
+    ensures { AllGive (λ (d : Dock). stepped d result.printed) (λ (d : Dock). stepped_by (swap_of d (bytes_from line.now 0 144))) map closed counts held (kept types) rest result.rest }
 {
     let new = digits::map_in(line);
     let answered = swap::swap_in_place(map, closed, counts, held, types, rest, &new);

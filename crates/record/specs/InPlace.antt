@@ -1,7 +1,7 @@
 -- What a function promises that works on the record in place: some arrays are lent, and the rest goes in and comes back by value.
 -- Assumes nothing.
 use Rattle.std.specs.Prelude.{ℕ, ◌≡◌, List}
-use Rattle.std.specs.Borrow.{MutBor}
+use Rattle.std.specs.Borrow.{Bor, MutBor}
 use denote.Triple.Both.{Both}
 use Rattle.record.specs.declared.Rest.{Rest}
 use Rattle.record.specs.declared.Dock.{Dock}
@@ -13,6 +13,13 @@ Array = MutBor (List ℕ)
 
 abbrev pub Lent : Type 0
 Lent = Both Array Array
+
+-- An array that is lent to be read alone is like one that is lent and left as it is: as it stands, and at the two moments.
+abbrev pub shown : Bor (List ℕ) → Array
+shown array = record { ref_ptr = array.ref_ptr; ghost_name = 0; now = array.now }
+
+abbrev pub kept : Both (Bor (List ℕ)) (Bor (List ℕ)) → Lent
+kept array = record { entry = shown array.entry; exit = shown array.exit }
 
 -- The record of lent arrays and a rest.
 abbrev pub dock_in : Array → Array → Array → Array → Array → Rest → Dock

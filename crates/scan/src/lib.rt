@@ -4,7 +4,7 @@
 ghost use Rattle.std.specs.Prelude.{◌≡◌, true, List, ℕ, length};
 ghost use Rattle.record.specs.declared.Dock.{Dock};
 ghost use Rattle.record.specs.Parts.{dock_with};
-ghost use Rattle.record.specs.InPlace.{dock_in, HeldAfter, AllAfter, AllGive};
+ghost use Rattle.record.specs.InPlace.{dock_in, shown, kept, HeldAfter, AllAfter, AllGive};
 ghost use Rattle.range.specs.Range.{good_rest};
 ghost use Rattle.dock.specs.Answers.{answered};
 ghost use Rattle.dock.specs.Standing.{Standing};
@@ -32,8 +32,8 @@ fn count(
     rest: Rest,
     scan: &[u8],
 ) -> Rest
-    requires { record { standing : Standing (dock_in map closed counts held types rest); scan : length scan.now ≡ 18 } }
-    ensures { AllAfter (λ (d : Dock). counting d scan.now) map closed counts held types rest result }
+    requires { record { standing : Standing (dock_in (shown map) closed counts held (shown types) rest); scan : length scan.now ≡ 18 } }
+    ensures { AllAfter (λ (d : Dock). counting d scan.now) (kept map) closed counts held (kept types) rest result }
 {
     let was = *closed;
     contacts::count(closed, counts, scan);
@@ -55,8 +55,8 @@ fn change(
     rest: Rest,
     scan: &[u8],
 ) -> Rest
-    requires { record { standing : Standing (dock_in map closed counts held types rest); scan : length scan.now ≡ 18 } }
-    ensures { AllAfter (λ (d : Dock). changed d scan.now) map closed counts held types rest result }
+    requires { record { standing : Standing (dock_in (shown map) closed counts held (shown types) rest); scan : length scan.now ≡ 18 } }
+    ensures { AllAfter (λ (d : Dock). changed d scan.now) (kept map) closed counts held (kept types) rest result }
 {
     if contacts::at_rest(closed, counts, scan) {
         return rest;
@@ -70,7 +70,7 @@ fn change(
 // The repeat, after the scan's changes.
 fn repeat_when_quiet(held: &Held, types: &Types, rest: Rest) -> Rest
     requires { good_rest rest ≡ true }
-    ensures { HeldAfter repeating held types rest result }
+    ensures { HeldAfter repeating (kept held) (kept types) rest result }
 {
     let replies = rest.replies;
     let outgoing = rest.outgoing;
@@ -93,8 +93,8 @@ fn hear(
     rest: Rest,
     scan: &[u8],
 ) -> Rest
-    requires { record { standing : Standing (dock_in map closed counts held types rest); scan : length scan.now ≡ 18 } }
-    ensures { AllAfter (λ (d : Dock). heard_scan d scan.now) map closed counts held types rest result }
+    requires { record { standing : Standing (dock_in (shown map) closed counts held (shown types) rest); scan : length scan.now ≡ 18 } }
+    ensures { AllAfter (λ (d : Dock). heard_scan d scan.now) (kept map) closed counts held (kept types) rest result }
 {
     let outgoing = rest.outgoing;
     let mut after = rest;
@@ -113,8 +113,8 @@ pub fn scan_in_place(
     rest: Rest,
     scan: &[u8],
 ) -> AnsweredRest
-    requires { Standing (dock_in map closed counts held types rest) }
-    ensures { AllGive (answered result.answer) (λ (d : Dock). scan_of d scan.now) map closed counts held types rest result.rest }
+    requires { Standing (dock_in (shown map) closed counts held (shown types) rest) }
+    ensures { AllGive (answered result.answer) (λ (d : Dock). scan_of d scan.now) (kept map) closed counts held (kept types) rest result.rest }
 {
     if scan.len() != 18 {
         return AnsweredRest {

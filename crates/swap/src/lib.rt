@@ -4,7 +4,7 @@
 ghost use Rattle.std.specs.Prelude.{◌≡◌, true, List, ℕ};
 ghost use Rattle.record.specs.declared.Dock.{Dock};
 ghost use Rattle.record.specs.Parts.{dock_with};
-ghost use Rattle.record.specs.InPlace.{dock_in, AllGive};
+ghost use Rattle.record.specs.InPlace.{dock_in, shown, kept, AllGive};
 ghost use Rattle.range.specs.Range.{in_range};
 ghost use Rattle.dock.specs.Answers.{answered};
 ghost use Rattle.dock.specs.Swap.{remapped, swap_of};
@@ -48,8 +48,8 @@ pub fn swap_in_place(
     rest: Rest,
     new: &[u8],
 ) -> AnsweredRest
-    requires { in_range (dock_in map closed counts held types rest) ≡ true }
-    ensures { AllGive (answered result.answer) (λ (d : Dock). swap_of d new.now) map closed counts held types rest result.rest }
+    requires { in_range (dock_in map closed counts held (shown types) rest) ≡ true }
+    ensures { AllGive (answered result.answer) (λ (d : Dock). swap_of d new.now) map closed counts held (kept types) rest result.rest }
 {
     if new.len() != 144 {
         return AnsweredRest {

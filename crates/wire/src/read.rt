@@ -1,7 +1,7 @@
 // The next byte for the host.
 ghost use Rattle.std.specs.Prelude.{◌≡◌, true, ◌≤◌};
 ghost use Rattle.record.specs.declared.Dock.{Dock};
-ghost use Rattle.record.specs.InPlace.{RestAfter, HeldGive};
+ghost use Rattle.record.specs.InPlace.{RestAfter, kept, HeldGive};
 ghost use Rattle.range.specs.Range.{good_rest};
 ghost use Rattle.dock.specs.Answers.{taken};
 ghost use Rattle.dock.specs.Read.{remembering, reply_taken, key_byte_taken, read};
@@ -25,7 +25,7 @@ fn remember(rest: Rest, byte: u8) -> Rest
 // The oldest reply.
 fn take_reply(held: &mut Held, types: &Types, rest: Rest) -> TakenRest
     requires { record { range : good_rest rest ≡ true; some : 1 ≤ rest.replies.length } }
-    ensures { HeldGive (taken result.given) reply_taken held types rest result.rest }
+    ensures { HeldGive (taken result.given) reply_taken held (kept types) rest result.rest }
 {
     let replies = rest.replies;
     let byte = replies.bytes[0];
@@ -40,7 +40,7 @@ fn take_reply(held: &mut Held, types: &Types, rest: Rest) -> TakenRest
 // The oldest key byte.
 fn take_key_byte(held: &mut Held, types: &Types, rest: Rest) -> TakenRest
     requires { record { range : good_rest rest ≡ true; some : 1 ≤ rest.outgoing.queue.length } }
-    ensures { HeldGive (taken result.given) key_byte_taken held types rest result.rest }
+    ensures { HeldGive (taken result.given) key_byte_taken held (kept types) rest result.rest }
 {
     let mut outgoing = rest.outgoing;
     let queue = outgoing.queue;
@@ -57,7 +57,7 @@ fn take_key_byte(held: &mut Held, types: &Types, rest: Rest) -> TakenRest
 // The read call in place, of a record in its range, whatever the map and the contacts are.
 pub fn read_in_place(held: &mut Held, types: &Types, rest: Rest) -> TakenRest
     requires { good_rest rest ≡ true }
-    ensures { HeldGive (taken result.given) read held types rest result.rest }
+    ensures { HeldGive (taken result.given) read held (kept types) rest result.rest }
 {
     let replies = rest.replies;
     if replies.length != 0 {
