@@ -1,5 +1,5 @@
 // The C interface without a dock (include/keydock.h): frames, a key's codes and the reader on numbers and bytes alone.
-// Nothing is decided here. Each function asks the part that knows and turns its answer into one number.
+// Nothing is decided here. Each function asks the part that knows and turns its answer into one number. C calls them by way of keydock_c.
 #![tactic(auto)]
 
 ghost use Rattle.std.specs.Prelude.{◌≡◌};
@@ -13,16 +13,14 @@ use frames::Unpacked;
 use reader::{Event, refusal_of};
 
 // The frame of a byte.
-#[unsafe(no_mangle)]
-pub extern "C" fn keydock_pack_frame(byte: u8) -> u16
+pub fn keydock_pack_frame(byte: u8) -> u16
     ensures { result ≡ packed_of byte }
 {
     frames::pack(byte)
 }
 
 // The byte of a frame; -256 for a broken one, -5 for a number over 2047.
-#[unsafe(no_mangle)]
-pub extern "C" fn keydock_unpack_frame(frame: u32) -> i32
+pub fn keydock_unpack_frame(frame: u32) -> i32
     ensures { result ≡ unpacked_number (unpacked_of frame) }
 {
     let answer = frames::unpack(frame);
@@ -34,8 +32,7 @@ pub extern "C" fn keydock_unpack_frame(frame: u32) -> i32
 }
 
 // A key's bytes into the lent output: how many; -7 for a choice out of its range, else -6 for an output under 8 bytes.
-#[unsafe(no_mangle)]
-pub extern "C" fn keydock_key_codes(
+pub fn keydock_key_codes(
     set: u32,
     key: u32,
     event: u32,
@@ -90,8 +87,7 @@ fn key_of(event: Event) -> u8
 }
 
 // One key byte read: event + 256 * key + 65536 * next state; -9 for a state over 14, else -7 for a set that is not 1 to 3.
-#[unsafe(no_mangle)]
-pub extern "C" fn keydock_read_byte(set: u32, state: u32, byte: u8) -> i32
+pub fn keydock_read_byte(set: u32, state: u32, byte: u8) -> i32
     ensures { result ≡ answer_number (answer_of set state byte) }
 {
     let answer = reader::read(set, state, byte);
@@ -108,8 +104,7 @@ pub extern "C" fn keydock_read_byte(set: u32, state: u32, byte: u8) -> i32
 }
 
 // The same for presses alone: 256 * key + 65536 * next state, or the same refusals.
-#[unsafe(no_mangle)]
-pub extern "C" fn keydock_read_press(set: u32, state: u32, byte: u8) -> i32
+pub fn keydock_read_press(set: u32, state: u32, byte: u8) -> i32
     ensures { result ≡ press_number (press_of (answer_of set state byte)) }
 {
     let press = reader::read_press(set, state, byte);
