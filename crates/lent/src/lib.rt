@@ -31,8 +31,7 @@ fn answer_number(answer: Answer) -> i32
 }
 
 // Power-on, whatever the bytes were.
-#[unsafe(no_mangle)]
-pub extern "C" fn keydock_power_on(lent: &mut [u8]) -> i32
+pub fn keydock_power_on(lent: &mut [u8]) -> i32
     ensures answer { result ≡ power_number lent.old }
     ensures bytes { lent.new ≡ power_bytes lent.old }
 {
@@ -51,8 +50,7 @@ pub extern "C" fn keydock_power_on(lent: &mut [u8]) -> i32
 }
 
 // A scan of the panel.
-#[unsafe(no_mangle)]
-pub extern "C" fn keydock_scan(lent: &mut [u8], scan: &[u8]) -> i32
+pub fn keydock_scan(lent: &mut [u8], scan: &[u8]) -> i32
     ensures answer { result ≡ number_for (Scan scan.now) lent.old }
     ensures bytes { lent.new ≡ bytes_after (Scan scan.now) lent.old }
 {
@@ -81,8 +79,7 @@ pub extern "C" fn keydock_scan(lent: &mut [u8], scan: &[u8]) -> i32
 }
 
 // Another panel.
-#[unsafe(no_mangle)]
-pub extern "C" fn keydock_swap(lent: &mut [u8], new: &[u8]) -> i32
+pub fn keydock_swap(lent: &mut [u8], new: &[u8]) -> i32
     ensures answer { result ≡ number_for (Swap new.now) lent.old }
     ensures bytes { lent.new ≡ bytes_after (Swap new.now) lent.old }
 {
@@ -111,8 +108,7 @@ pub extern "C" fn keydock_swap(lent: &mut [u8], new: &[u8]) -> i32
 }
 
 // A frame from the host.
-#[unsafe(no_mangle)]
-pub extern "C" fn keydock_frame(lent: &mut [u8], number: u32) -> i32
+pub fn keydock_frame(lent: &mut [u8], number: u32) -> i32
     ensures answer { result ≡ number_for (Frame number) lent.old }
     ensures bytes { lent.new ≡ bytes_after (Frame number) lent.old }
 {
@@ -139,8 +135,7 @@ pub extern "C" fn keydock_frame(lent: &mut [u8], number: u32) -> i32
 }
 
 // The next byte for the host.
-#[unsafe(no_mangle)]
-pub extern "C" fn keydock_read(lent: &mut [u8]) -> i32
+pub fn keydock_read(lent: &mut [u8]) -> i32
     ensures answer { result ≡ number_for Read lent.old }
     ensures bytes { lent.new ≡ bytes_after Read lent.old }
 {
@@ -163,8 +158,7 @@ pub extern "C" fn keydock_read(lent: &mut [u8]) -> i32
 }
 
 // The lamps that the host wants lit.
-#[unsafe(no_mangle)]
-pub extern "C" fn keydock_indicators(lent: &[u8]) -> i32
+pub fn keydock_indicators(lent: &[u8]) -> i32
     ensures { result ≡ indicators_number lent.now }
 {
     if !is_record(lent) {
@@ -176,8 +170,7 @@ pub extern "C" fn keydock_indicators(lent: &[u8]) -> i32
 }
 
 // Whether the host wants scans to be heard.
-#[unsafe(no_mangle)]
-pub extern "C" fn keydock_scanning(lent: &[u8]) -> i32
+pub fn keydock_scanning(lent: &[u8]) -> i32
     ensures { result ≡ scanning_number lent.now }
 {
     if !is_record(lent) {
