@@ -110,7 +110,7 @@ fn run(dock: Dock, text: &[u8], out: &mut [u8]) -> Ran
     }
 }
 
-// A length, or 289: a line of more than 288 characters is malformed whatever they are (`overlong-malformed` in
+// A length, or 289: a line of more than 288 characters is malformed whatever they are (`overlong_malformed` in
 // crates/text/proofs/Lengths.antt), so of a line that is too long already just enough is kept to show it.
 fn shortened(n: usize) -> usize
     ensures { (result ≤ n) × (result ≤ 289) }
