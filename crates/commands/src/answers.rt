@@ -7,6 +7,7 @@ use hostbytes::{ACKNOWLEDGED, AWAKE, ECHO, IDENTIFY, IDENTITY, IDENTITY_END, RES
 use replies::{Replies, one, three, two};
 
 // What a command is answered with.
+#[tactic(auto, unfolding(crate::specs::Commands::reply_to))]
 pub fn reply_to(byte: u8) -> Replies
     ensures { result ≡ replies_of (reply_to byte) }
 {
