@@ -3,7 +3,7 @@
 
 ghost use Rattle.std.specs.Prelude.{◌≡◌, true, ◌≤◌, ◌<◌, length};
 ghost use Rattle.basics.specs.Lists.{all_up_to};
-ghost use Rattle.keys.specs.Keys.{laid_out, last_key};
+ghost use Rattle.keys.specs.Keys.{last_key};
 ghost use Rattle.record.specs.Views.{keys_with};
 ghost use Rattle.range.specs.Range.{good_keys, good_mode};
 ghost use Rattle.keying.specs.Changes.{keys_from, pressed, released, moved, turns_to, rows_to};
@@ -32,7 +32,6 @@ fn press(
       mode : good_mode mode ≡ true;
       places : length bytes.old ≡ 16;
       number : key < 144;
-      laid : table.now ≡ laid_out;
     } }
     ensures { keys_from held.new bytes.new result
         ≡ pressed (keys_from held.old bytes.old rest) mode kind key }
@@ -65,7 +64,6 @@ fn release(
       mode : good_mode mode ≡ true;
       places : length bytes.old ≡ 16;
       number : key < 144;
-      laid : table.now ≡ laid_out;
     } }
     ensures { keys_from held.new bytes.new result
         ≡ released (keys_from held.old bytes.old rest) mode kind key }
@@ -95,7 +93,6 @@ fn contact_turned(
       mode : good_mode mode ≡ true;
       places : length bytes.old ≡ 16;
       number : key ≤ last_key;
-      laid : table.now ≡ laid_out;
     } }
     ensures { keys_from held.new bytes.new result
         ≡ moved (keys_from held.old bytes.old rest) mode types.now key closed }
@@ -129,7 +126,6 @@ fn column(
       places : length bytes.old ≡ 16;
       column : c < 18;
       entries : all_up_to last_key map.now ≡ true;
-      laid : table.now ≡ laid_out;
     } }
     ensures { keys_from held.new bytes.new result
         ≡ rows_to 8 mode types.now map.now c was is (keys_from held.old bytes.old rest) }
@@ -171,7 +167,7 @@ pub fn turns(
     ensures { keys_with held.new result
         ≡ turns_to 144 mode types.now map.now was.now is.now (keys_with held.old outgoing) }
 {
-    let table = keys::table();
+    let table = keys::Table::new();
     let queue = outgoing.queue;
     let mut bytes = queue.bytes;
     let mut after = OutgoingRest {

@@ -2,12 +2,11 @@
 ghost use Rattle.std.specs.Prelude.{◌≡◌, Bool, false, ℕ};
 ghost use Rattle.codes.specs.Codes.{make_of, break_of, has_forms, encode};
 ghost use Rattle.codes.specs.Sequences.{holding};
-ghost use Rattle.keys.specs.Keys.{laid_out};
 
 use crate::bytes::empty;
 use crate::rows::{has_code, may_repeat, sends_release};
 use crate::{Action, Sequence};
-use keys::{Table, code_in};
+use keys::Table;
 
 // The make of a code and no more.
 fn make_of(code: u16) -> Sequence
@@ -60,25 +59,25 @@ fn break_of(set: u8, code: u16) -> Sequence
 
 // The bytes that an action of such a key sends.
 pub fn plain_sequence(table: &Table, set: u8, key: u8, action: Action, kind: u8) -> Sequence
-    requires { record { laid : table.now ≡ laid_out; plain : has_forms set key ≡ false } }
+    requires { has_forms set key ≡ false }
     ensures { (modifiers : ℕ) (lock : Bool) → result ≡ holding (encode set key action kind modifiers lock) }
 {
     if !has_code(set, key) {
         return empty();
     }
     match action {
-        Action::Press => make_of(code_in(table, set, key)),
+        Action::Press => make_of(table.code(set, key)),
         Action::Release => {
             if !sends_release(set, kind) {
                 return empty();
             }
-            break_of(set, code_in(table, set, key))
+            break_of(set, table.code(set, key))
         }
         Action::Repeat => {
             if !may_repeat(set, key, kind) {
                 return empty();
             }
-            make_of(code_in(table, set, key))
+            make_of(table.code(set, key))
         }
     }
 }

@@ -47,12 +47,17 @@ pub const FIRST_MEDIA: u8 = 105;
 // Places for something of each key, by its number: place 0 is no key's.
 pub const PLACES: usize = LAST_KEY as usize + 1;
 
-// The table has the codes of each key as an array: whoever is lent an array of structs has to be proved by hand, step by step.
-pub type Table = [[u16; 3]; LAST_KEY as usize];
+// The codes of all keys, each key's as an array; that they are those of the rules is part of the type, so whoever is lent a table may rely
+// on it.
+#[derive(Drop)]
+pub struct Table {
+    rows: [[u16; 3]; LAST_KEY as usize],
+    ghost laid: { rows ≡ laid_out },
+}
 
 // Key 1 stands first: its codes in sets 1, 2 and 3. A code above 255 has the prefix E0: 0xe05b is sent as E0 5B. 0 is no code.
 // Sheet 004 has the codes; those of LWIN, RWIN and APP are in its table of new keys, those of the media keys in sheets 001 and 003.
-const KEYS: Table = [
+const KEYS: [[u16; 3]; LAST_KEY as usize] = [
     [0x29, 0x0e, 0x0e], // 1 `
     [0x02, 0x16, 0x16], // 2 1
     [0x03, 0x1e, 0x1e], // 3 2
@@ -180,32 +185,28 @@ const KEYS: Table = [
     [0xe063, 0xe05e, 0], // 125 WAKE-UP
 ];
 
-// The whole table, for a caller to lay out once and lend. No other function names it: the check pays for each that does.
-pub fn table() -> Table
-    ensures { result ≡ laid_out }
-{
-    KEYS
-}
+impl Table {
+    // The whole table, for a caller to lay out once and lend. No other function names it: the check pays for each that does.
+    pub fn new() -> Self
+        ensures { result.rows ≡ laid_out }
+    {
+        Table { rows: KEYS }
+    }
 
-// The code of a key by a lent table: the one place where an action looks into it. A number that is no key has none.
-pub fn code_in(table: &Table, set: u8, key: u8) -> u16
-    requires { table.now ≡ laid_out }
-    ensures { result ≡ code_in set key }
-{
-    if key == 0 {
-        return 0;
+    // The code of a key: the one place where an action looks into the table. A number that is no key has none.
+    pub fn code(&self, set: u8, key: u8) -> u16
+        ensures { result ≡ code_in set key }
+    {
+        if key == 0 || LAST_KEY < key {
+            return 0;
+        }
+        let [one, two, three] = self.rows[key as usize - 1];
+        match set {
+            1 => one,
+            2 => two,
+            _ => three,
+        }
     }
-    if LAST_KEY < key {
-        return 0;
-    }
-    let row = table[(key - 1) as usize];
-    if set == 1 {
-        return row[0];
-    }
-    if set == 2 {
-        return row[1];
-    }
-    row[2]
 }
 
 // The overrun mark of a set (docs/RULES.md, section 7): what is queued, and read, in place of bytes that had no room.

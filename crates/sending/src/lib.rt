@@ -6,7 +6,6 @@ ghost use Rattle.basics.specs.Choice.{both, either};
 ghost use Rattle.codes.specs.declared.Action.TheVariants.{Press, Release};
 ghost use Rattle.codes.specs.Codes.{has_code, pauses_at_once, sends_release};
 ghost use Rattle.codes.specs.Sequences.{holding};
-ghost use Rattle.keys.specs.Keys.{laid_out};
 ghost use Rattle.queue.specs.Queues.{queue_with, tidy};
 ghost use Rattle.range.specs.Range.{good_mode};
 ghost use Rattle.record.specs.Held.{flag_of, modifiers_of};
@@ -70,7 +69,6 @@ pub fn bytes_of(held: &Held, mode: Mode, kind: u8, key: u8, action: Action) -> S
 
 // The same by a key table at hand. A key of one form does not ask what else is held.
 fn bytes_in(held: &Held, table: &Table, mode: Mode, kind: u8, key: u8, action: Action) -> Sequence
-    requires { table.now ≡ laid_out }
     ensures { result ≡ holding (sends_with held.now mode kind key action) }
 {
     if !forms::has_forms(mode.set, key) {
@@ -129,7 +127,6 @@ pub fn send_press(
     requires { record {
       tidied : tidy (queue_with bytes.old at) ≡ true;
       places : length bytes.old ≡ 16;
-      laid : table.now ≡ laid_out;
     } }
     ensures { queue_with bytes.new result
         ≡ queued_of (queue_with bytes.old at) mode (sends_with held.now mode kind key Press) }
@@ -159,7 +156,6 @@ pub fn send_release(
       tidied : tidy (queue_with bytes.old at) ≡ true;
       places : length bytes.old ≡ 16;
       mode : good_mode mode ≡ true;
-      laid : table.now ≡ laid_out;
     } }
     ensures { queue_with bytes.new result
         ≡ queued_of (queue_with bytes.old at) mode (sends_with held.now mode kind key Release) }

@@ -6,7 +6,6 @@ mod wraps; // wraps.rt: what a wrapping sends around a key
 ghost use Rattle.std.specs.Prelude.{◌≡◌, ◌++◌, ℕ, ◌≤◌};
 ghost use Rattle.basics.specs.Choice.{both};
 ghost use Rattle.codes.specs.Codes.{make_of, before, is_print, is_other, code_of, pause_bytes, pauses_at_once, bytes_of, encode};
-ghost use Rattle.keys.specs.Keys.{laid_out};
 ghost use Rattle.codes.specs.declared.Action.TheVariants.{Press, Release, Repeat};
 ghost use Rattle.codes.specs.Sequences.{holding};
 
@@ -15,7 +14,7 @@ use codes::bytes::{empty, with_break, with_make};
 use codes::rows::{has_code, may_repeat, sends_release};
 use codes::{Action, Form, Sequence};
 use forms::form_of;
-use keys::{PAUSE, PRINT, Table, code_in};
+use keys::{PAUSE, PRINT, Table};
 
 // The other form of PRINT or PAUSE.
 fn is_other(form: Form) -> bool
@@ -43,13 +42,12 @@ fn is_other_print(key: u8, form: Form) -> bool
 
 // The code of a key in a form.
 fn code_of(table: &Table, set: u8, key: u8, form: Form) -> u16
-    requires { table.now ≡ laid_out }
     ensures { result ≡ code_of set key form }
 {
     if is_other_print(key, form) {
         return if set == 1 { 0x54 } else { 0x84 };
     }
-    code_in(table, set, key)
+    table.code(set, key)
 }
 
 // All of PAUSE in set 1 or 2, written out.
@@ -96,7 +94,6 @@ fn pauses_at_once(set: u8, key: u8) -> bool
 
 // A key's make in its form, behind what a wrapping sends.
 fn made(table: &Table, set: u8, key: u8, form: Form, wrapping: Form) -> Sequence
-    requires { table.now ≡ laid_out }
     ensures { result ≡ holding (before set wrapping ++ make_of (code_of set key form)) }
 {
     let start = with_before(empty(), set, wrapping);
@@ -105,7 +102,6 @@ fn made(table: &Table, set: u8, key: u8, form: Form, wrapping: Form) -> Sequence
 
 // The bytes of a press, which no type changes.
 fn press_bytes(table: &Table, set: u8, key: u8, form: Form) -> Sequence
-    requires { table.now ≡ laid_out }
     ensures { (kind : ℕ) → result ≡ holding (bytes_of set key Press kind form) }
 {
     if pauses_at_once(set, key) {
@@ -116,7 +112,6 @@ fn press_bytes(table: &Table, set: u8, key: u8, form: Form) -> Sequence
 
 // The bytes of a release.
 fn release_bytes(table: &Table, set: u8, key: u8, kind: u8, form: Form) -> Sequence
-    requires { table.now ≡ laid_out }
     ensures { result ≡ holding (bytes_of set key Release kind form) }
 {
     let none = empty();
@@ -133,7 +128,6 @@ fn release_bytes(table: &Table, set: u8, key: u8, kind: u8, form: Form) -> Seque
 
 // The bytes of a repeat, which is never wrapped.
 fn repeat_bytes(table: &Table, set: u8, key: u8, kind: u8, form: Form) -> Sequence
-    requires { table.now ≡ laid_out }
     ensures { result ≡ holding (bytes_of set key Repeat kind form) }
 {
     if !may_repeat(set, key, kind) {
@@ -152,7 +146,6 @@ pub fn sequence_in(
     modifiers: u8,
     lock: bool,
 ) -> Sequence
-    requires { table.now ≡ laid_out }
     ensures { result ≡ holding (encode set key action kind modifiers lock) }
 {
     if !has_code(set, key) {
@@ -177,6 +170,6 @@ pub fn sequence_of(
 ) -> Sequence
     ensures { result ≡ holding (encode set key action kind modifiers lock) }
 {
-    let table = keys::table();
+    let table = Table::new();
     sequence_in(&table, set, key, action, kind, modifiers, lock)
 }

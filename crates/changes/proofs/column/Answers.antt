@@ -46,7 +46,7 @@ overflow_shr-is c =
 pub contact_turned-after-requires : goal.contact_turned-after-requires
 contact_turned-after-requires c =
     let p = c.requires in
-    record { keys = c.loop-turned.invariant.1; mode = p.mode; places = c.loop-turned.invariant.2; number = up_to_at last_key _ _ p.entries; laid = p.laid }
+    record { keys = c.loop-turned.invariant.1; mode = p.mode; places = c.loop-turned.invariant.2; number = up_to_at last_key _ _ p.entries }
 
 pub loop-turned-smaller : goal.loop-turned-smaller
 loop-turned-smaller c = fewer c.loop-turned.turned (omega arith)

@@ -12,7 +12,7 @@ use Rattle.changes.proofs.press.Goals as goal
 pub send_press-requires : goal.send_press-requires
 send_press-requires c =
     let a = c.args in
-    record { tidied = good_keys_queue (keys_from a.held.now a.bytes.now a.rest) c.requires.keys; places = c.requires.places; laid = c.requires.laid }
+    record { tidied = good_keys_queue (keys_from a.held.now a.bytes.now a.rest) c.requires.keys; places = c.requires.places }
 
 pub overflow_cast-after : goal.overflow_cast-after
 overflow_cast-after c =

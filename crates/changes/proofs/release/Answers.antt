@@ -13,7 +13,7 @@ use Rattle.changes.proofs.release.Goals as goal
 pub send_release-length-requires : goal.send_release-length-requires
 send_release-length-requires c =
     let a = c.args in
-    record { tidied = good_keys_queue (keys_from a.held.now a.bytes.now a.rest) c.requires.keys; places = c.requires.places; mode = c.requires.mode; laid = c.requires.laid }
+    record { tidied = good_keys_queue (keys_from a.held.now a.bytes.now a.rest) c.requires.keys; places = c.requires.places; mode = c.requires.mode }
 
 pub overflow_cast-length : goal.overflow_cast-length
 overflow_cast-length c =

@@ -32,7 +32,7 @@ column-after-requires c =
     let good = ap good_keys c.loop-c.invariant.2 ∙ turns_good a.mode p.mode a.types.now a.map.now p.entries _ a.was.now a.is.now k p.keys in
     let kept = ap (λ (x : Keys). length x.queue.bytes) c.loop-c.invariant.2
     ∙ turns_bytes a.mode a.types.now a.map.now p.entries _ a.was.now a.is.now k c.loop-c.invariant.1 in
-    record { keys = good; mode = p.mode; places = kept; column = c.loop-c-test.true; entries = p.entries; laid = c.table-table.ensures }
+    record { keys = good; mode = p.mode; places = kept; column = c.loop-c-test.true; entries = p.entries }
 
 pub loop-c-preserved : goal.loop-c-preserved
 loop-c-preserved c =

@@ -5,7 +5,7 @@ use Rattle.sending.specs.Sending.{num_lock}
 use Rattle.sending.proofs.bytes_in.Goals as goal
 
 pub plain_sequence-requires : goal.plain_sequence-requires
-plain_sequence-requires c = record { laid = c.requires; plain = sym c.has_forms.ensures ∙ c.if-not-has_forms.true }
+plain_sequence-requires c = sym c.has_forms.ensures ∙ c.if-not-has_forms.true
 
 pub returns-then-not-has_forms : goal.returns-then-not-has_forms
 returns-then-not-has_forms c =

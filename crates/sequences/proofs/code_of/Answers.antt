@@ -13,4 +13,4 @@ returns-else-set-eq1 c = rw (← c.is_other_print.ensures, c.if-is_other_print.t
 
 pub returns : goal.returns
 unfolding code_of
-returns c = rw (← c.is_other_print.ensures, c.if-is_other_print.false) c.code_in.ensures
+returns c = rw (← c.is_other_print.ensures, c.if-is_other_print.false) c.code.ensures
