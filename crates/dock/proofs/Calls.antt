@@ -1,11 +1,12 @@
 -- What holds of a call, by its cases: a law for each of the four calls, over any property. Assumes nothing.
-use mathlib.Core.Path.{◌≡◌, refl}
+use mathlib.Core.Path.{◌≡◌}
 use mathlib.Core.Bool.{true, false}
 use mathlib.Core.List.{List, [], ◌∷◌}
 use Prim.Native.Nat.{ℕ}
 use borrow.Author.Tests.{eqb-true}
 use lib.Dec.{eqb}
 use lib.ListN.{length}
+use Rattle.std.specs.Prelude.{None, Ok, Err}
 use Rattle.basics.specs.Lists.{all_up_to}
 use Rattle.basics.proofs.Cases.{by_cases, picked}
 use Rattle.commands.specs.Commands.{replying}
@@ -19,12 +20,9 @@ use Rattle.range.specs.Range.{in_range}
 use Rattle.record.specs.declared.Dock.{Dock}
 use Rattle.record.specs.Views.{keys_of, with_queue}
 use Rattle.record.specs.Parts.{with_keys, with_replies}
-use Rattle.dock.specs.declared.Answer.{Answer}
-use Rattle.dock.specs.declared.Answer.TheVariants.{Accepted, ScanLength, MapLength, MapEntry, MapDouble, FrameNumber, BadRecord}
-use Rattle.dock.specs.declared.Answered.{Answered}
-use Rattle.dock.specs.declared.Given.TheVariants.{Nothing, Refused}
-use Rattle.dock.specs.declared.Taken.{Taken}
-use Rattle.dock.specs.Answers.{is_accepted, answered, taken}
+use Rattle.dock.specs.declared.Refusal.{Refusal}
+use Rattle.dock.specs.declared.Refusal.TheVariants.{ScanLength, MapLength, MapEntry, MapDouble, FrameNumber, BadRecord}
+use Rattle.dock.specs.Answers.{Answered, Taken, answered, taken}
 use Rattle.dock.specs.Closing.{closing}
 use Rattle.dock.specs.Scan.{listening, heard_scan, scanned, scan_of}
 use Rattle.dock.specs.Swap.{remapped, swapped, swap_of}
@@ -32,34 +30,34 @@ use Rattle.dock.specs.Frame.{took_frame, frame_of}
 use Rattle.dock.specs.Read.{oldest, without_oldest, oldest_reply, replies_behind, remembering, reply_taken, key_byte_taken, read, read_of}
 
 -- A property of the answer and the record beside it: whoever refuses leaves the record.
-module _ (P : Answered → Type 0) (d : Dock) (left : (answer : Answer) → is_accepted answer ≡ false → P (answered answer d)) where
-  pub by_scan : (scan : List ℕ) → P (answered Accepted (scanned d scan)) → P (scan_of d scan)
+module _ (P : Answered → Type 0) (d : Dock) (left : (refusal : Refusal) → P (answered (Err refusal) d)) where
+  pub by_scan : (scan : List ℕ) → P (answered (Ok tt) (scanned d scan)) → P (scan_of d scan)
   unfolding scan_of
-  by_scan scan done = picked P (in_range d) _ _ (picked P (eqb (length scan) 18) _ _ done (left ScanLength refl)) (left BadRecord refl)
+  by_scan scan done = picked P (in_range d) _ _ (picked P (eqb (length scan) 18) _ _ done (left ScanLength)) (left BadRecord)
 
-  pub by_swap : (map : List ℕ) → (length map ≡ 144 → all_up_to last_key map ≡ true → P (answered Accepted (swapped d map))) → P (swap_of d map)
+  pub by_swap : (map : List ℕ) → (length map ≡ 144 → all_up_to last_key map ≡ true → P (answered (Ok tt) (swapped d map))) → P (swap_of d map)
   unfolding swap_of
   by_swap map done =
       picked P (in_range d) _ _
       (by_cases P (eqb (length map) 144) _ _
       (λ long. by_cases P (all_up_to last_key map) _ _
-      (λ good. picked P (has_double map) _ _ (left MapDouble refl) (done (eqb-true (length map) 144 long) good)) (λ bad. left MapEntry refl))
-      (λ short. left MapLength refl))
-      (left BadRecord refl)
+      (λ good. picked P (has_double map) _ _ (left MapDouble) (done (eqb-true (length map) 144 long) good)) (λ bad. left MapEntry))
+      (λ short. left MapLength))
+      (left BadRecord)
 
-  pub by_frame : (number : ℕ) → ((byte : ℕ) → P (answered Accepted (closing (took_byte byte d))))
-      → P (answered Accepted (closing (replying (0xfe ∷ []) d))) → P (frame_of d number)
+  pub by_frame : (number : ℕ) → ((byte : ℕ) → P (answered (Ok tt) (closing (took_byte byte d))))
+      → P (answered (Ok tt) (closing (replying (0xfe ∷ []) d))) → P (frame_of d number)
   unfolding frame_of took_frame
-  by_frame number took broken = picked P (in_range d) _ _ (go (unpacked_of number)) (left BadRecord refl)
+  by_frame number took broken = picked P (in_range d) _ _ (go (unpacked_of number)) (left BadRecord)
     where
       go : (u : Unpacked) → P (took_frame u d)
       go (Byte byte) = took byte
       go Broken = broken
-      go TooLarge = left FrameNumber refl
+      go TooLarge = left FrameNumber
 
 -- The same of a read: refused, or by what waits.
-pub by_read : (P : Taken → Type 0) (d : Dock) → P (taken Refused d)
-    → (eqb d.rest.replies.length 0 ≡ true → eqb d.rest.outgoing.queue.length 0 ≡ true → P (taken Nothing (closing d)))
+pub by_read : (P : Taken → Type 0) (d : Dock) → P (taken (Err BadRecord) d)
+    → (eqb d.rest.replies.length 0 ≡ true → eqb d.rest.outgoing.queue.length 0 ≡ true → P (taken (Ok None) (closing d)))
     → (eqb d.rest.replies.length 0 ≡ true → eqb d.rest.outgoing.queue.length 0 ≡ false → P (key_byte_taken d))
     → (eqb d.rest.replies.length 0 ≡ false → P (reply_taken d)) → P (read_of d)
 unfolding read_of read
@@ -77,14 +75,14 @@ module _ (P : Dock → Type 0) (ends : (e : Dock) → P e → P (closing e)) (d 
 
   pub scan_keeps : (scan : List ℕ) → P (heard_scan d scan) → P (scan_of d scan).dock
   unfolding scanned
-  scan_keeps scan heard = by_scan After d (λ answer refused. p) scan (picked P (listening d) _ _ heard (ends d p))
+  scan_keeps scan heard = by_scan After d (λ refusal. p) scan (picked P (listening d) _ _ heard (ends d p))
 
   pub swap_keeps : (map : List ℕ) → (length map ≡ 144 → all_up_to last_key map ≡ true → P (remapped d map)) → P (swap_of d map).dock
   unfolding swapped
-  swap_keeps map done = by_swap After d (λ answer refused. p) map (λ long good. ends _ (done long good))
+  swap_keeps map done = by_swap After d (λ refusal. p) map (λ long good. ends _ (done long good))
 
   pub frame_keeps : (number : ℕ) → ((byte : ℕ) → P (took_byte byte d)) → P (replying (0xfe ∷ []) d) → P (frame_of d number).dock
-  frame_keeps number took broken = by_frame After d (λ answer refused. p) number (λ byte. ends _ (took byte)) (ends _ broken)
+  frame_keeps number took broken = by_frame After d (λ refusal. p) number (λ byte. ends _ (took byte)) (ends _ broken)
 
   pub read_keeps : ((byte : ℕ) → P (remembering (with_keys d (with_queue (keys_of d) (without_oldest d.rest.outgoing.queue))) byte))
       → ((byte : ℕ) → P (remembering (with_replies d (replies_behind d.rest.replies)) byte)) → P (read_of d).dock

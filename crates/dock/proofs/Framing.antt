@@ -3,6 +3,7 @@ use mathlib.Core.Path.{◌≡◌, sym, ap, ◌∙◌}
 use mathlib.Core.Bool.{true, false}
 use mathlib.Core.List.{[], ◌∷◌}
 use Prim.Native.Nat.{ℕ}
+use Rattle.std.specs.Prelude.{Ok, Err}
 use Rattle.frames.specs.declared.Unpacked.{Unpacked}
 use Rattle.frames.specs.declared.Unpacked.TheVariants.{Byte, Broken, TooLarge}
 use Rattle.frames.specs.Frames.{unpacked_of}
@@ -10,13 +11,13 @@ use Rattle.commands.specs.Commands.{replying}
 use Rattle.host.specs.Values.{took_byte}
 use Rattle.record.specs.declared.Dock.{Dock}
 use Rattle.range.specs.Range.{in_range}
-use Rattle.dock.specs.declared.Answer.TheVariants.{Accepted, FrameNumber, BadRecord}
+use Rattle.dock.specs.declared.Refusal.TheVariants.{FrameNumber, BadRecord}
 use Rattle.dock.specs.Answers.{answered}
 use Rattle.dock.specs.Closing.{closing}
 use Rattle.dock.specs.Frame.{took_frame, frame_of}
 
 module _ (d : Dock) (number : ℕ) where
-  pub frame_bad_record : in_range d ≡ false → answered BadRecord d ≡ frame_of d number
+  pub frame_bad_record : in_range d ≡ false → answered (Err BadRecord) d ≡ frame_of d number
   unfolding frame_of
   frame_bad_record f = rw f
 
@@ -29,15 +30,15 @@ module _ (d : Dock) (number : ℕ) where
     by_case : (which : Unpacked) → unpacked ≡ which → took_frame which d ≡ took_frame (unpacked_of number) d
     by_case which i = ap (λ (x : Unpacked). took_frame x d) (sym i ∙ u)
 
-    pub frame_too_large : unpacked ≡ TooLarge → answered FrameNumber d ≡ took_frame (unpacked_of number) d
+    pub frame_too_large : unpacked ≡ TooLarge → answered (Err FrameNumber) d ≡ took_frame (unpacked_of number) d
     unfolding took_frame
     frame_too_large i = by_case TooLarge i
 
     module _ (next r : Dock) (c : r ≡ closing next) where
-      pub frame_broken : unpacked ≡ Broken → next ≡ replying (0xfe ∷ []) d → answered Accepted r ≡ took_frame (unpacked_of number) d
+      pub frame_broken : unpacked ≡ Broken → next ≡ replying (0xfe ∷ []) d → answered (Ok tt) r ≡ took_frame (unpacked_of number) d
       unfolding took_frame
       frame_broken i n = rw (c, n) (by_case Broken i)
 
-      pub frame_byte : (byte : ℕ) → unpacked ≡ Byte byte → next ≡ took_byte byte d → answered Accepted r ≡ took_frame (unpacked_of number) d
+      pub frame_byte : (byte : ℕ) → unpacked ≡ Byte byte → next ≡ took_byte byte d → answered (Ok tt) r ≡ took_frame (unpacked_of number) d
       unfolding took_frame
       frame_byte byte i n = rw (c, n) (by_case (Byte byte) i)

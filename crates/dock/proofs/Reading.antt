@@ -6,6 +6,7 @@ use Prim.Native.Nat.{ℕ, zero, suc, ◌≤◌}
 use native.Mathlib.Omega.{arith}
 use borrow.Author.Tests.{eq-eqb, ne_eqb}
 use lib.ListN.{get_or, take}
+use Rattle.std.specs.Prelude.{Some, None, Ok, Err}
 use Rattle.queue.specs.declared.Queue.{Queue}
 use Rattle.replies.specs.declared.Replies.{Replies}
 use Rattle.queue.specs.Queues.{waiting}
@@ -14,9 +15,9 @@ use Rattle.record.specs.declared.Dock.{Dock}
 use Rattle.record.specs.Views.{with_queue, keys_of}
 use Rattle.record.specs.Parts.{with_replies, with_keys}
 use Rattle.range.specs.Range.{in_range}
-use Rattle.dock.specs.declared.Given.TheVariants.{Nothing, Reply, KeyByte, Refused}
-use Rattle.dock.specs.declared.Taken.{Taken}
-use Rattle.dock.specs.Answers.{taken}
+use Rattle.dock.specs.declared.Given.TheVariants.{Reply, KeyByte}
+use Rattle.dock.specs.declared.Refusal.TheVariants.{BadRecord}
+use Rattle.dock.specs.Answers.{Taken, taken}
 use Rattle.dock.specs.Closing.{closing}
 use Rattle.dock.specs.Read.{oldest, without_oldest, oldest_reply, replies_behind, remembering, reply_taken, key_byte_taken, read, read_of}
 
@@ -37,18 +38,18 @@ oldest_reply_in_front r h = front r.length r.bytes h
 -- A byte was given.
 module _ (d : Dock) (byte : ℕ) (kept r : Dock) (i : r ≡ closing kept) where
   pub reply_given : (rest : Replies) → byte ≡ oldest_reply d.rest.replies → rest ≡ replies_behind d.rest.replies
-      → kept ≡ remembering (with_replies d rest) byte → taken (Reply byte) r ≡ reply_taken d
+      → kept ≡ remembering (with_replies d rest) byte → taken (Ok (Some (Reply byte))) r ≡ reply_taken d
   unfolding reply_taken
   reply_given rest b e k = rw (i, k, e, b)
 
   pub key_byte_given : (rest : Queue) → byte ≡ oldest d.rest.outgoing.queue → rest ≡ without_oldest d.rest.outgoing.queue
-      → kept ≡ remembering (with_keys d (with_queue (keys_of d) rest)) byte → taken (KeyByte byte) r ≡ key_byte_taken d
+      → kept ≡ remembering (with_keys d (with_queue (keys_of d) rest)) byte → taken (Ok (Some (KeyByte byte))) r ≡ key_byte_taken d
   unfolding key_byte_taken
   key_byte_given rest b e k = rw (i, k, e, b)
 
 -- The whole call: in its range the record is read,
 module _ (d : Dock) where
-  pub read_bad_record : in_range d ≡ false → taken Refused d ≡ read_of d
+  pub read_bad_record : in_range d ≡ false → taken (Err BadRecord) d ≡ read_of d
   unfolding read_of
   read_bad_record f = rw f
 
@@ -66,6 +67,6 @@ module _ (d : Dock) where
     unfolding read
     read_key_byte m r i = simp (eq-eqb d.rest.replies.length 0 n, ne_eqb d.rest.outgoing.queue.length 0 m, i)
 
-    pub read_nothing : d.rest.outgoing.queue.length ≡ 0 → (r : Dock) → r ≡ closing d → taken Nothing r ≡ read d
+    pub read_nothing : d.rest.outgoing.queue.length ≡ 0 → (r : Dock) → r ≡ closing d → taken (Ok None) r ≡ read d
     unfolding read
     read_nothing m r i = simp (eq-eqb d.rest.replies.length 0 n, eq-eqb d.rest.outgoing.queue.length 0 m, i)

@@ -1,17 +1,12 @@
 -- A refused call changes nothing, whatever record it came with, in range or not. Assumes nothing.
-use mathlib.Core.Path.{◌≡◌, refl, ap}
+use mathlib.Core.Path.{◌≡◌, refl}
 use mathlib.Core.Bool.{true, false}
 use mathlib.Core.List.{List}
 use Prim.Native.Nat.{ℕ}
-use native.Mathlib.Omega.{arith}
+use Rattle.std.specs.Prelude.{Ok, is_ok}
 use Rattle.basics.proofs.Cases.{never}
 use Rattle.record.specs.declared.Dock.{Dock}
-use Rattle.dock.specs.declared.Answer.TheVariants.{Accepted}
-use Rattle.dock.specs.declared.Answered.{Answered}
-use Rattle.dock.specs.declared.Given.{Given}
-use Rattle.dock.specs.declared.Given.TheVariants.{Refused}
-use Rattle.dock.specs.declared.Taken.{Taken}
-use Rattle.dock.specs.Answers.{is_accepted, given_says, taken_says, answered}
+use Rattle.dock.specs.Answers.{Answered, Taken, is_accepted, answered}
 use Rattle.dock.specs.Scan.{scan_of}
 use Rattle.dock.specs.Swap.{swap_of}
 use Rattle.dock.specs.Frame.{frame_of}
@@ -24,26 +19,25 @@ module _ (d : Dock) where
   Left a = is_accepted a.answer ≡ false → a.dock ≡ d
 
   -- An accepted call is none.
-  accepted : (after : Dock) → Left (answered Accepted after)
+  accepted : (after : Dock) → Left (answered (Ok tt) after)
   unfolding Left
   accepted after refused = never true refl refused
 
   pub scan_refused : (scan : List ℕ) → is_accepted (scan_of d scan).answer ≡ false → (scan_of d scan).dock ≡ d
   unfolding Left
-  scan_refused scan = by_scan Left d (λ answer bad refused. refl) scan (accepted _)
+  scan_refused scan = by_scan Left d (λ refusal refused. refl) scan (accepted _)
 
   pub swap_refused : (map : List ℕ) → is_accepted (swap_of d map).answer ≡ false → (swap_of d map).dock ≡ d
   unfolding Left
-  swap_refused map = by_swap Left d (λ answer bad refused. refl) map (λ long good. accepted _)
+  swap_refused map = by_swap Left d (λ refusal refused. refl) map (λ long good. accepted _)
 
   pub frame_refused : (number : ℕ) → is_accepted (frame_of d number).answer ≡ false → (frame_of d number).dock ≡ d
   unfolding Left
-  frame_refused number = by_frame Left d (λ answer bad refused. refl) number (λ byte. accepted _) (accepted _)
+  frame_refused number = by_frame Left d (λ refusal refused. refl) number (λ byte. accepted _) (accepted _)
 
-  -- A read that is not refused gives a byte or nothing, and its number is 0.
-  pub read_refused : (read_of d).given ≡ Refused → (read_of d).dock ≡ d
+  -- A read that is not refused gives a byte or nothing.
+  pub read_refused : is_ok (read_of d).given ≡ false → (read_of d).dock ≡ d
   unfolding key_byte_taken reply_taken
-  read_refused = by_read (λ (t : Taken). t.given ≡ Refused → t.dock ≡ d) d (λ refused. refl) (λ none empty. gives refl) (λ none some. gives refl) (λ some. gives refl)
-    where
-      gives : {t : Taken} → (taken_says t).number ≡ 0 → t.given ≡ Refused → t.dock ≡ d
-      gives given refused = absurd (omega (arith, given, ap (λ (given : Given). (given_says given).number) refused))
+  read_refused =
+      by_read (λ (t : Taken). is_ok t.given ≡ false → t.dock ≡ d) d (λ refused. refl) (λ none empty refused. never true refl refused)
+      (λ none some refused. never true refl refused) (λ some refused. never true refl refused)

@@ -1,5 +1,7 @@
 -- What each call says is what the table of numbers has of it (docs/RULES.md, section 9). Assumes nothing.
 use mathlib.Core.Path.{◌≡◌, refl}
+use mathlib.Core.Bool.{false}
+use Rattle.std.specs.Prelude.{Result, Ok, Err, ⊤}
 use mathlib.Core.List.{List, []}
 use Prim.Native.Nat.{ℕ}
 use lib.Dec.{eqb, ltb}
@@ -13,13 +15,26 @@ use Rattle.frames.specs.Frames.{whole, unpacked_of}
 use Rattle.maps.specs.Maps.{has_double}
 use Rattle.record.specs.declared.Dock.{Dock}
 use Rattle.range.specs.Range.{in_range}
-use Rattle.dock.specs.declared.Answered.{Answered}
-use Rattle.dock.specs.declared.Taken.{Taken}
-use Rattle.dock.specs.Answers.{answered_says, taken_says}
+use Rattle.dock.specs.declared.Refusal.{Refusal}
+use Rattle.dock.specs.declared.Refusal.TheVariants.{ScanLength, MapLength, MapEntry, MapDouble, FrameNumber, BadRecord}
+use Rattle.dock.specs.Answers.{Answered, Taken, refusal_number, answer_says, is_accepted, answered_says, taken_says}
 use Rattle.dock.specs.Scan.{scan_of, scan_said}
 use Rattle.dock.specs.Swap.{swap_of, swap_said}
 use Rattle.dock.specs.Frame.{took_frame, frame_of, frame_said}
 use Rattle.dock.specs.Read.{reply_taken, key_byte_taken, read, read_of, read_said}
+
+-- An answer accepts exactly where its number is 0.
+pub accepted_is_0 : (answer : Result ⊤ Refusal) → is_accepted answer ≡ eqb (answer_says answer).number 0
+accepted_is_0 (Ok done) = refl
+accepted_is_0 (Err refusal) = go refusal
+  where
+    go : (refusal : Refusal) → false ≡ eqb (refusal_number refusal) 0
+    go ScanLength = refl
+    go MapLength = refl
+    go MapEntry = refl
+    go MapDouble = refl
+    go FrameNumber = refl
+    go BadRecord = refl
 
 module _ (d : Dock) where
   -- The call says this.

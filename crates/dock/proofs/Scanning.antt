@@ -6,6 +6,7 @@ use Prim.Native.Nat.{ℕ}
 use borrow.Author.Tests.{eq-eqb, ne_eqb}
 use lib.Dec.{eqb}
 use lib.ListN.{length}
+use Rattle.std.specs.Prelude.{Ok, Err}
 use Rattle.contacts.specs.Counts.{Contacts, counted_of}
 use Rattle.phantom.specs.Phantom.{is_phantom}
 use Rattle.keying.specs.Changes.{turns_to}
@@ -14,7 +15,7 @@ use Rattle.record.specs.Views.{Keys, contacts_of, keys_of}
 use Rattle.record.specs.Parts.{with_keys, with_contacts}
 use Rattle.record.specs.declared.Dock.{Dock}
 use Rattle.range.specs.Range.{in_range}
-use Rattle.dock.specs.declared.Answer.TheVariants.{Accepted, ScanLength, BadRecord}
+use Rattle.dock.specs.declared.Refusal.TheVariants.{ScanLength, BadRecord}
 use Rattle.dock.specs.Answers.{answered}
 use Rattle.dock.specs.Closing.{closing}
 use Rattle.dock.specs.Scan.{listening, counting, changed, quiet, repeating, heard_scan, scanned, scan_of}
@@ -54,20 +55,20 @@ heard_whole d scan next r e i = rw e at i
 
 -- The whole call.
 module _ (d : Dock) (scan : List ℕ) where
-  pub scan_bad_record : in_range d ≡ false → answered BadRecord d ≡ scan_of d scan
+  pub scan_bad_record : in_range d ≡ false → answered (Err BadRecord) d ≡ scan_of d scan
   unfolding scan_of
   scan_bad_record f = rw f
 
   module _ (h : in_range d ≡ true) where
-    pub scan_wrong_length : (length scan ≡ 18 → ⊥) → answered ScanLength d ≡ scan_of d scan
+    pub scan_wrong_length : (length scan ≡ 18 → ⊥) → answered (Err ScanLength) d ≡ scan_of d scan
     unfolding scan_of
     scan_wrong_length n = simp (h, ne_eqb (length scan) 18 n)
 
     module _ (l : length scan ≡ 18) (listens : Bool) (g : listens ≡ listening d) (r : Dock) where
-      pub scan_not_heard : listens ≡ false → r ≡ closing d → answered Accepted r ≡ scan_of d scan
+      pub scan_not_heard : listens ≡ false → r ≡ closing d → answered (Ok tt) r ≡ scan_of d scan
       unfolding scan_of scanned
       scan_not_heard n i = simp (h, eq-eqb (length scan) 18 l, sym g, n, i)
 
-      pub scan_heard : listens ≡ true → r ≡ heard_scan d scan → answered Accepted r ≡ scan_of d scan
+      pub scan_heard : listens ≡ true → r ≡ heard_scan d scan → answered (Ok tt) r ≡ scan_of d scan
       unfolding scan_of scanned
       scan_heard y i = simp (h, eq-eqb (length scan) 18 l, sym g, y, i)

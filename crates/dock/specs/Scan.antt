@@ -1,5 +1,5 @@
 -- A scan (docs/RULES.md, sections 5 and 6). Assumes nothing.
-use Rattle.std.specs.Prelude.{Bool, not, List, [], ℕ, eqb, length}
+use Rattle.std.specs.Prelude.{Bool, not, List, [], ℕ, eqb, length, Ok, Err}
 use Rattle.basics.specs.Choice.{pick, both}
 use Rattle.basics.specs.Said.{Said, accepted, refused}
 use Rattle.phantom.specs.Phantom.{is_phantom}
@@ -10,9 +10,8 @@ use Rattle.record.specs.declared.Dock.{Dock}
 use Rattle.record.specs.Views.{contacts_of, keys_of}
 use Rattle.record.specs.Parts.{with_keys, with_contacts}
 use Rattle.range.specs.Range.{in_range}
-use Rattle.dock.specs.declared.Answer.TheVariants.{Accepted, ScanLength, BadRecord}
-use Rattle.dock.specs.declared.Answered.{Answered}
-use Rattle.dock.specs.Answers.{answered}
+use Rattle.dock.specs.declared.Refusal.TheVariants.{ScanLength, BadRecord}
+use Rattle.dock.specs.Answers.{Answered, answered}
 use Rattle.dock.specs.Closing.{closing}
 
 -- Scans are listened to: scanning is on, no command waits for its value, no swap is unfinished.
@@ -54,8 +53,8 @@ scanned d scan = pick (listening d) (heard_scan d scan) (closing d)
 unfoldable pub scan_of : Dock → List ℕ → Answered
 scan_of d scan =
     pick (in_range d)
-    (pick (eqb (length scan) 18) (answered Accepted (scanned d scan)) (answered ScanLength d))
-    (answered BadRecord d)
+    (pick (eqb (length scan) 18) (answered (Ok tt) (scanned d scan)) (answered (Err ScanLength) d))
+    (answered (Err BadRecord) d)
 
 -- What is said of it, by the table.
 unfoldable pub scan_said : Dock → List ℕ → Said

@@ -1,5 +1,5 @@
 -- A panel swap (docs/RULES.md, section 8). Assumes nothing.
-use Rattle.std.specs.Prelude.{true, List, [], ℕ, eqb, length}
+use Rattle.std.specs.Prelude.{true, List, [], ℕ, eqb, length, Ok, Err}
 use Rattle.basics.specs.Choice.{pick}
 use Rattle.basics.specs.Said.{Said, accepted, refused}
 use Rattle.basics.specs.Lists.{all_up_to}
@@ -9,9 +9,8 @@ use Rattle.record.specs.declared.Dock.{Dock}
 use Rattle.record.specs.Views.{with_repeat, keys_of}
 use Rattle.record.specs.Parts.{with_handover, with_keys, with_contacts, with_map}
 use Rattle.range.specs.Range.{in_range}
-use Rattle.dock.specs.declared.Answer.TheVariants.{Accepted, MapLength, MapEntry, MapDouble, BadRecord}
-use Rattle.dock.specs.declared.Answered.{Answered}
-use Rattle.dock.specs.Answers.{answered}
+use Rattle.dock.specs.declared.Refusal.TheVariants.{MapLength, MapEntry, MapDouble, BadRecord}
+use Rattle.dock.specs.Answers.{Answered, answered}
 use Rattle.dock.specs.Closing.{closing}
 use Rattle.maps.specs.Maps.{has_double}
 
@@ -33,10 +32,10 @@ swap_of d map =
     pick (in_range d)
     (pick (eqb (length map) 144)
     (pick (all_up_to last_key map)
-    (pick (has_double map) (answered MapDouble d) (answered Accepted (swapped d map)))
-    (answered MapEntry d))
-    (answered MapLength d))
-    (answered BadRecord d)
+    (pick (has_double map) (answered (Err MapDouble) d) (answered (Ok tt) (swapped d map)))
+    (answered (Err MapEntry) d))
+    (answered (Err MapLength) d))
+    (answered (Err BadRecord) d)
 
 -- What is said of it, by the table.
 unfoldable pub swap_said : Dock → List ℕ → Said

@@ -1,67 +1,42 @@
-// The dock (docs/RULES.md): what a call is answered with, and how every accepted call ends. What each call does is said in specs/, and
-// done in place by `scan`, `swap` and `wire`. `Answered` and `Taken` hold a whole record: with them the definitions say what a call gives, whatever
-// record it is given. A refused call leaves it as it was.
+// The dock (docs/RULES.md): why a call is refused, what a read gives, and how every accepted call ends. What each call does is said in specs/,
+// and done in place by `scan`, `swap` and `wire`. A refused call leaves the record as it was.
 #![tactic(auto)]
 
-use record::{Dock, Rest};
+ghost use Rattle.std.specs.Prelude.{◌≡◌};
+ghost use Rattle.dock.specs.Answers.{refusal_number};
 
 pub mod closing; // closing.rt: how every accepted call ends
 
-// What a scan, a swap or a frame is answered with.
-#[derive(Clone, Copy)]
-pub enum Answer {
-    Accepted,
-    // 1: a scan that is not 18 bytes
-    ScanLength,
-    // 2: a map that is not 144 bytes
-    MapLength,
-    // 3: a map entry over 125
-    MapEntry,
-    // 4: a key twice in the map
-    MapDouble,
-    // 5: a frame number over 2047
-    FrameNumber,
-    // 9: a part of the record is out of its range
-    BadRecord,
+// Why a call is refused.
+#[derive(Clone, Copy, PartialEq, Eq)]
+pub enum Refusal {
+    ScanLength, // a scan that is not 18 bytes
+    MapLength, // a map that is not 144 bytes
+    MapEntry, // a map entry over 125
+    MapDouble, // a key twice in the map
+    FrameNumber, // a frame number over 2047
+    BadRecord, // a part of the record is out of its range
 }
 
-// An answer, and the record after it.
-#[derive(Clone, Copy)]
-pub struct Answered {
-    pub answer: Answer,
-    pub dock: Dock,
+impl Refusal {
+    // The number that a refusal has for those who call from outside.
+    pub fn number(self) -> u8
+        ensures { result ≡ refusal_number self }
+    {
+        match self {
+            Refusal::ScanLength => 1,
+            Refusal::MapLength => 2,
+            Refusal::MapEntry => 3,
+            Refusal::MapDouble => 4,
+            Refusal::FrameNumber => 5,
+            Refusal::BadRecord => 9,
+        }
+    }
 }
 
-// The same in place: the arrays were lent.
-#[derive(Clone, Copy)]
-pub struct AnsweredRest {
-    pub answer: Answer,
-    pub rest: Rest,
-}
-
-// What a read gives.
-#[derive(Clone, Copy)]
+// What a read gives, where something waits.
+#[derive(Clone, Copy, PartialEq, Eq)]
 pub enum Given {
-    // Neither a reply nor a key byte waits.
-    Nothing,
-    // The oldest reply.
-    Reply(u8),
-    // The oldest key byte.
-    KeyByte(u8),
-    // 9: a part of the record is out of its range
-    Refused,
-}
-
-// What a read gave, and the record after it.
-#[derive(Clone, Copy)]
-pub struct Taken {
-    pub given: Given,
-    pub dock: Dock,
-}
-
-// The same in place: the arrays were lent.
-#[derive(Clone, Copy)]
-pub struct TakenRest {
-    pub given: Given,
-    pub rest: Rest,
+    Reply(u8), // the oldest reply
+    KeyByte(u8), // the oldest key byte
 }
