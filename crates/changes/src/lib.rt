@@ -4,7 +4,9 @@
 ghost use Rattle.std.specs.Prelude.{◌≡◌, true, ◌≤◌, ◌<◌, length};
 ghost use Rattle.basics.specs.Lists.{all_up_to};
 ghost use Rattle.keys.specs.Keys.{last_key};
-ghost use Rattle.record.specs.Views.{keys_with};
+ghost use Rattle.record.specs.Views.{keys_with, keys_of};
+ghost use Rattle.record.specs.Parts.{with_keys};
+ghost use Rattle.keying.specs.Ready.{Ready};
 ghost use Rattle.range.specs.Range.{good_keys, good_mode};
 ghost use Rattle.keying.specs.Changes.{keys_from, pressed, released, moved, turns_to, rows_to};
 
@@ -14,7 +16,7 @@ use keying::{OutgoingRest, let_go};
 use keys::Table;
 use queue::Queue;
 use record::held::key_down;
-use record::{Held, Map, Mode, Outgoing, Types};
+use record::{Dock, Held, Map, Mode, Outgoing, Types};
 use sending::{send_press, send_release};
 
 // A key is pressed.
@@ -150,7 +152,7 @@ fn column(
 }
 
 // All contacts that turned, in the order of their positions.
-pub fn turns(
+fn turned(
     held: &mut Held,
     outgoing: Outgoing,
     mode: Mode,
@@ -192,4 +194,23 @@ pub fn turns(
         repeating: after.repeating,
         countdown: after.countdown,
     }
+}
+
+// All contacts that turned from what they were, in the order of their positions.
+pub fn turns(dock: &mut Dock, was: &Columns)
+    requires { record { ready : Ready dock.old; entries : all_up_to last_key dock.old.map ≡ true } }
+    ensures { dock.new
+        ≡ with_keys dock.old (turns_to 144 dock.old.rest.mode dock.old.types dock.old.map was.now dock.old.closed (keys_of dock.old)) }
+{
+    let outgoing = dock.rest.outgoing;
+    let mode = dock.rest.mode;
+    dock.rest.outgoing = turned(
+        &mut dock.held,
+        outgoing,
+        mode,
+        &dock.types,
+        &dock.map,
+        was,
+        &dock.closed,
+    );
 }

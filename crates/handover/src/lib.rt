@@ -3,17 +3,18 @@
 
 ghost use Rattle.std.specs.Prelude.{◌≡◌, true, ◌≤◌, ◌<◌};
 ghost use Rattle.queue.specs.Queues.{contents};
-ghost use Rattle.record.specs.Views.{keys_with};
+ghost use Rattle.record.specs.Views.{keys_with, keys_of};
 ghost use Rattle.range.specs.Range.{good_keys, good_mode};
 ghost use Rattle.keying.specs.Changes.{keys_from, released_with};
-ghost use Rattle.keying.specs.Handover.{handed_with, handed_rest, handed_over};
+ghost use Rattle.keying.specs.Handover.{handed_with, handed_rest, handed_over, with_handed};
+ghost use Rattle.keying.specs.Ready.{Ready};
 
 use codes::{Action, Sequence};
 use keying::{HandedRest, OutgoingRest, let_go};
 use keys::mark_of;
 use queue::Queue;
 use record::held::is_held;
-use record::{Held, Mode, Outgoing, Types};
+use record::{Dock, Held, Mode, Outgoing, Types};
 use sending::bytes_of;
 
 // A key is released, and these bytes say so.
@@ -61,7 +62,7 @@ fn handed(bytes: [u8; 16], rest: OutgoingRest, unfinished: bool) -> HandedRest
 }
 
 // A handover goes on as far as the queue has room.
-pub fn hand_over(held: &mut Held, outgoing: Outgoing, mode: Mode, types: &Types) -> HandedRest
+fn handed_on(held: &mut Held, outgoing: Outgoing, mode: Mode, types: &Types) -> HandedRest
     requires { record { keys : good_keys (keys_with held.old outgoing) ≡ true; mode : good_mode mode ≡ true } }
     ensures { handed_with held.new result ≡ handed_over (keys_with held.old outgoing) mode types.now }
 {
@@ -84,4 +85,17 @@ pub fn hand_over(held: &mut Held, outgoing: Outgoing, mode: Mode, types: &Types)
         key += 1;
     }
     handed(bytes, after, false)
+}
+
+// A handover goes on as far as the queue has room, and is open as long as it has not come to its end.
+pub fn hand_over(dock: &mut Dock)
+    requires { Ready dock.old }
+    ensures { dock.new
+        ≡ with_handed dock.old (handed_over (keys_of dock.old) dock.old.rest.mode dock.old.types) }
+{
+    let outgoing = dock.rest.outgoing;
+    let mode = dock.rest.mode;
+    let handed = handed_on(&mut dock.held, outgoing, mode, &dock.types);
+    dock.rest.outgoing = handed.outgoing;
+    dock.rest.handover = handed.unfinished;
 }

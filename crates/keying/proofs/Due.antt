@@ -2,8 +2,7 @@
 use mathlib.Core.Path.{◌≡◌, ap, ◌∙◌}
 use mathlib.Core.Bool.{Bool, true, false}
 use mathlib.Core.List.{List}
-use Prim.Native.Nat.{ℕ, ◌-◌}
-use native.Mathlib.Omega.{arith}
+use Prim.Native.Nat.{ℕ}
 use borrow.Author.Tests.{eq-eqb, ne_eqb}
 use lib.ListN.{get_or}
 use Rattle.codes.specs.declared.Action.TheVariants.{Repeat}
@@ -13,15 +12,10 @@ use Rattle.codes.specs.Sequences.{holding}
 use Rattle.queue.specs.declared.Queue.{Queue}
 use Rattle.queue.specs.Queues.{queue_of, contents}
 use Rattle.record.specs.declared.Mode.{Mode}
-use Rattle.record.specs.Views.{Keys, with_repeat, keys}
+use Rattle.record.specs.Views.{Keys, keys}
 use Rattle.sending.specs.Sending.{sends}
 use Rattle.sending.proofs.Sent.{sequence_is}
-use Rattle.keying.specs.Repeat.{interval_of, ticked, is_due, repeated}
-
-pub countdown_stands : (k : Keys) → k.countdown ≡ 0 → k ≡ ticked k
-countdown_stands k z =
-    let same : k.countdown ≡ k.countdown - 1 = omega arith in
-    ap (with_repeat k k.repeating) same
+use Rattle.keying.specs.Repeat.{interval_of, is_due, repeated}
 
 module _ (k : Keys) (m : Mode) (types : List ℕ) (quiet : Bool) where
   pub repeats_none : k.repeating ≡ 0 → k ≡ repeated k m types quiet

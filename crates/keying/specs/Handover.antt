@@ -5,7 +5,9 @@ use Rattle.keys.specs.Keys.{last_key}
 use Rattle.codes.specs.declared.Action.TheVariants.{Release}
 use Rattle.queue.specs.Queues.{queue_with, waiting, has_room}
 use Rattle.record.specs.declared.Mode.{Mode}
+use Rattle.record.specs.declared.Dock.{Dock}
 use Rattle.record.specs.Views.{Keys, keys_with}
+use Rattle.record.specs.Parts.{with_keys, with_handover}
 use Rattle.record.specs.Held.{is_held}
 use Rattle.sending.specs.Sending.{sends}
 use Rattle.keying.specs.declared.HandedRest.{HandedRest}
@@ -44,3 +46,7 @@ handed_rest bytes rest unfinished =
       outgoing = record { queue = queue_with bytes rest.length; repeating = rest.repeating; countdown = rest.countdown };
       unfinished = unfinished;
     }
+
+-- The record with the keys that were handed over, and the handover as far as it got.
+abbrev pub with_handed : Dock → Handed → Dock
+with_handed d h = with_handover (with_keys d h.keys) h.unfinished

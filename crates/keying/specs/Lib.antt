@@ -1,3 +1,4 @@
 pub mod Changes
 pub mod Repeat
 pub mod Handover
+pub mod Ready

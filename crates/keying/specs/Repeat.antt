@@ -6,7 +6,6 @@ use Rattle.codes.specs.Codes.{may_repeat}
 use Rattle.queue.specs.Queues.{queue_of}
 use Rattle.record.specs.declared.Mode.{Mode}
 use Rattle.record.specs.Views.{Keys, with_repeat, with_queue}
-use Rattle.record.specs.declared.Outgoing.{Outgoing}
 use Rattle.sending.specs.Sending.{sends}
 
 -- The scans from a press to its first repeat: C + 1 quarters of a second, C being bits 6 and 5 of the rate.
@@ -20,10 +19,6 @@ interval_of rate = (8 + rate % 8) * 2 ^ (rate / 8 % 4)
 -- One scan less to the next repeat.
 abbrev pub ticked : Keys → Keys
 ticked k = with_repeat k k.repeating (k.countdown - 1)
-
--- The same without the flags.
-abbrev pub ticked_on : Outgoing → Outgoing
-ticked_on o = record { queue = o.queue; repeating = o.repeating; countdown = o.countdown - 1 }
 
 -- A repeat is due.
 abbrev pub is_due : Keys → Bool

@@ -1,11 +1,12 @@
 // The key that repeats.
-ghost use Rattle.std.specs.Prelude.{◌≡◌, true, ◌≤◌};
-ghost use Rattle.record.specs.Views.{keys_with};
-ghost use Rattle.range.specs.Range.{good_keys, good_mode};
-ghost use Rattle.keying.specs.Repeat.{delay_of, interval_of, ticked_on, repeated};
+ghost use Rattle.std.specs.Prelude.{◌≡◌, ◌≤◌};
+ghost use Rattle.record.specs.Views.{keys_of};
+ghost use Rattle.record.specs.Parts.{with_keys};
+ghost use Rattle.keying.specs.Ready.{Ready};
+ghost use Rattle.keying.specs.Repeat.{delay_of, interval_of, ticked, repeated};
 
 use codes::Action;
-use record::{Held, Mode, Outgoing, Types};
+use record::Dock;
 use sending::bytes_of;
 
 // The scans from a press to its first repeat.
@@ -24,39 +25,34 @@ fn interval_of(rate: u8) -> u8
 }
 
 // One scan less to the next repeat.
-pub fn tick(outgoing: Outgoing) -> Outgoing
-    ensures { result ≡ ticked_on outgoing }
+pub fn tick(dock: &mut Dock)
+    ensures { dock.new ≡ with_keys dock.old (ticked (keys_of dock.old)) }
 {
-    if outgoing.countdown == 0 {
-        return outgoing;
-    }
-    let mut after = outgoing;
-    after.countdown = outgoing.countdown - 1;
-    after
+    dock.rest.outgoing.countdown = dock.rest.outgoing.countdown.saturating_sub(1);
 }
 
-// A repeat that is due is sent if nothing waits. No flag changes.
-pub fn repeat(held: &Held, outgoing: Outgoing, mode: Mode, types: &Types, quiet: bool) -> Outgoing
-    requires { record { keys : good_keys (keys_with held.now outgoing) ≡ true; mode : good_mode mode ≡ true } }
-    ensures { keys_with held.now result ≡ repeated (keys_with held.now outgoing) mode types.now quiet }
+// A repeat that is due is sent if all is quiet. No flag changes.
+pub fn repeat(dock: &mut Dock, quiet: bool)
+    requires { Ready dock.old }
+    ensures { dock.new
+        ≡ with_keys dock.old (repeated (keys_of dock.old) dock.old.rest.mode dock.old.types quiet) }
 {
-    let key = outgoing.repeating;
+    let key = dock.rest.outgoing.repeating;
     if key == 0 {
-        return outgoing;
+        return;
     }
-    if outgoing.countdown != 0 {
-        return outgoing;
+    if dock.rest.outgoing.countdown != 0 {
+        return;
     }
-    let kind = types[key as usize];
-    let mut after = outgoing;
+    let mode = dock.rest.mode;
+    let kind = dock.types[key as usize];
     if !codes::rows::may_repeat(mode.set, key, kind) {
-        after.repeating = 0;
-        return after;
+        dock.rest.outgoing.repeating = 0;
+        return;
     }
-    after.countdown = interval_of(mode.rate);
-    if !quiet {
-        return after;
+    dock.rest.outgoing.countdown = interval_of(mode.rate);
+    if quiet {
+        let sequence = bytes_of(&dock.held, mode, kind, key, Action::Repeat);
+        dock.rest.outgoing.queue = queue::alone(sequence);
     }
-    after.queue = queue::alone(bytes_of(held, mode, kind, key, Action::Repeat));
-    after
 }

@@ -1,10 +1,10 @@
--- `changes::turns` meets its contract. The loop's invariant: c is at most 18, and the positions of the columns below c have been
+-- `changes::turned` meets its contract. The loop's invariant: c is at most 18, and the positions of the columns below c have been
 -- looked at. The measure is what is left of the columns. Assumes nothing.
 use Prim.Native.Nat.{◌*◌, ◌-◌, ◌≤◌}
 use mathlib.Core.Path.{◌≡◌}
 use lib.ListN.{length}
 use Rattle.keying.specs.Changes.{keys_from, turns_to}
-use Rattle.changes.proofs.turns.Given as goal
+use Rattle.changes.proofs.turned.Given as goal
 
 abbrev pub invariant-loop-c : goal.invariant-loop-c
 invariant-loop-c l =

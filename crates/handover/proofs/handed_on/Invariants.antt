@@ -1,10 +1,10 @@
--- `handover::hand_over` meets its contract. The loop's invariant: key is at most 126, and what is left of the handover is the
+-- `handover::handed_on` meets its contract. The loop's invariant: key is at most 126, and what is left of the handover is the
 -- same handover of the keys as they are, from that key on. The measure is what is left of the keys. Assumes nothing.
 use Prim.Native.Nat.{suc, ◌-◌, ◌≤◌}
 use Rattle.keys.specs.Keys.{last_key}
 use Rattle.keying.specs.Changes.{keys_from}
 use Rattle.handover.proofs.Leaving.{Going}
-use Rattle.handover.proofs.hand_over.Given as goal
+use Rattle.handover.proofs.handed_on.Given as goal
 
 abbrev pub invariant-loop-key : goal.invariant-loop-key
 invariant-loop-key l =

@@ -13,8 +13,8 @@ use Rattle.keying.specs.Changes.{keys_from}
 use Rattle.keying.specs.Handover.{handed_with}
 use Rattle.keying.proofs.Changes.{keys_from_same}
 use Rattle.handover.proofs.Leaving.{Going, begins, passes, leaves, waits, ends}
-use Rattle.handover.proofs.hand_over.Goals as goal
-use Rattle.handover.proofs.hand_over.Goals.{else-is_held, then-is_held+else-not-fits}
+use Rattle.handover.proofs.handed_on.Goals as goal
+use Rattle.handover.proofs.handed_on.Goals.{else-is_held, then-is_held+else-not-fits}
 
 pub overflow_cast-after : goal.overflow_cast-after
 overflow_cast-after c =

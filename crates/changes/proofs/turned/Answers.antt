@@ -12,8 +12,8 @@ use Rattle.keying.proofs.Changes.{keys_from_same}
 use Rattle.keying.proofs.Good.{turns_good}
 use Rattle.keying.proofs.Places.{turns_bytes}
 use Rattle.changes.proofs.Rows.{turns_none, column_stays, column_turns, turns_all}
-use Rattle.changes.proofs.turns.Goals as goal
-use Rattle.changes.proofs.turns.Goals.{else-was-c, then-was-c}
+use Rattle.changes.proofs.turned.Goals as goal
+use Rattle.changes.proofs.turned.Goals.{else-was-c, then-was-c}
 
 pub overflow_cast-after : goal.overflow_cast-after
 overflow_cast-after c =
