@@ -2,6 +2,7 @@
 use mathlib.Core.Path.{◌≡◌, refl}
 use mathlib.Core.Bool.{true}
 use mathlib.Core.List.{List, [], ◌∷◌}
+use Rattle.std.specs.Prelude.{Option}
 use Prim.Native.Nat.{ℕ, ◌≤◌}
 use native.Mathlib.Omega.{arith}
 use lib.ListN.{length}
@@ -27,7 +28,7 @@ module _ (d : Dock) (h : in_range d ≡ true) where
   value_in_range : (byte : ℕ) → in_range (took_value byte d) ≡ true
   unfolding valued
   value_in_range byte =
-      by_asked (λ (asked : Asked). in_range (valued asked d) ≡ true) d.rest.waiting byte
+      by_asked (λ (asked : Option Asked). in_range (valued asked d) ≡ true) d.rest.waiting byte
       (λ ed a. granted_in_range _ (indicators_in_range byte a) [] (omega arith))
       (λ f0 low high. granted_in_range _ (set_in_range d h byte low high) [] (omega arith))
       (λ f0 zero. granted_in_range d h (d.rest.mode.set ∷ []) (omega arith))

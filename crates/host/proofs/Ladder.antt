@@ -1,6 +1,7 @@
 -- What a byte from the host does, taken case by case, as commands/proofs/Ladder has it for commands. Assumes nothing.
 use mathlib.Core.Path.{◌≡◌}
 use mathlib.Core.List.{[], ◌∷◌}
+use Rattle.std.specs.Prelude.{Option, Some, None}
 use Prim.Native.Nat.{ℕ, ◌-◌, ◌≤◌, ◌<◌}
 use borrow.Author.Tests.{eqb-true, eqb-false, leb-true, leb-false}
 use lib.Dec.{eqb, leb}
@@ -11,17 +12,17 @@ use Rattle.commands.specs.Commands.{replying, with_set, with_rate, commanded}
 use Rattle.lookup.specs.Lookup.{key_with}
 use Rattle.record.specs.declared.Dock.{Dock}
 use Rattle.host.specs.declared.values.Asked.{Asked}
-use Rattle.host.specs.declared.values.Asked.TheVariants.{Indicators, Set, WhichSet, Rate, KeyType, Wrong}
+use Rattle.host.specs.declared.values.Asked.TheVariants.{Indicators, Set, WhichSet, Rate, KeyType}
 use Rattle.host.specs.Values.{asked_of, with_indicators, with_type, granted, valued, took_value, took_byte}
 
 -- What a value asks of a command, with what is known of the two in each case.
-pub by_asked : (P : Asked → Type 0) (command value : ℕ)
-    → (command ≡ 0xed → value ≤ 7 → P (Indicators value))
-    → (command ≡ 0xf0 → 1 ≤ value → value ≤ 3 → P (Set value))
-    → (command ≡ 0xf0 → value ≡ 0 → P WhichSet)
-    → (command ≡ 0xf3 → value ≤ 127 → P (Rate value))
-    → (0xfb ≤ command → command ≤ 0xfd → (key_with 3 value ≡ 0 → ⊥) → P (KeyType (key_with 3 value) (command - 0xfb)))
-    → P Wrong → P (asked_of command value)
+pub by_asked : (P : Option Asked → Type 0) (command value : ℕ)
+    → (command ≡ 0xed → value ≤ 7 → P (Some (Indicators value)))
+    → (command ≡ 0xf0 → 1 ≤ value → value ≤ 3 → P (Some (Set value)))
+    → (command ≡ 0xf0 → value ≡ 0 → P (Some WhichSet))
+    → (command ≡ 0xf3 → value ≤ 127 → P (Some (Rate value)))
+    → (0xfb ≤ command → command ≤ 0xfd → (key_with 3 value ≡ 0 → ⊥) → P (Some (KeyType (key_with 3 value) (command - 0xfb))))
+    → P None → P (asked_of command value)
 unfolding asked_of
 by_asked P command value lamps chosen which rate type wrong =
     by_cases P (eqb command 0xed) _ _
@@ -45,7 +46,7 @@ module _ (P : Dock → Type 0) (byte : ℕ) (d : Dock) where
       → P (granted [] (with_type (key_with 3 byte) (d.rest.waiting - 0xfb) d)) → P (replying (0xfe ∷ []) d) → P (took_value byte d)
   unfolding valued
   by_value lamps chosen which rate type wrong =
-      by_asked (λ (asked : Asked). P (valued asked d)) d.rest.waiting byte
+      by_asked (λ (asked : Option Asked). P (valued asked d)) d.rest.waiting byte
       (λ ed h. lamps) (λ f0 low high. chosen f0) (λ f0 h. which) (λ f3 h. rate) (λ low high h. type) wrong
 
   -- FE, a command, or a value.
