@@ -1,15 +1,10 @@
--- The end of an accepted call as the code meets it. Assumes nothing.
+-- A record in its range is ready for what is done with its keys. Assumes nothing.
 use mathlib.Core.Path.{◌≡◌}
-use mathlib.Core.Bool.{true, false}
-use Rattle.keying.specs.Handover.{Handed, handed_over}
+use mathlib.Core.Bool.{true}
+use Rattle.keying.specs.Ready.{Ready}
 use Rattle.record.specs.declared.Dock.{Dock}
-use Rattle.record.specs.Views.{keys_of}
-use Rattle.dock.specs.Closing.{with_handed, closing}
+use Rattle.range.specs.Range.{good_rest}
+use Rattle.range.proofs.Ranges.{good_rest_outgoing, good_rest_mode}
 
-pub nothing_to_hand_over : (d : Dock) → d.rest.handover ≡ false → d ≡ closing d
-unfolding closing
-nothing_to_hand_over d f = rw f
-
-pub handed_over_on : (d : Dock) (h : Handed) → d.rest.handover ≡ true → h ≡ handed_over (keys_of d) d.rest.mode d.types → with_handed d h ≡ closing d
-unfolding closing
-handed_over_on d h t e = rw (t, e)
+pub keys_ready : (d : Dock) → good_rest d.rest ≡ true → Ready d
+keys_ready d good = record { keys = good_rest_outgoing d.rest good; mode = good_rest_mode d.rest good }
