@@ -1,4 +1,3 @@
 pub mod Records
 pub mod Putting
-pub mod Fronts
 pub mod RoundTrip

@@ -1,21 +1,22 @@
 -- What bytes give that are a record, and the tests by which the code finds it out. Assumes nothing.
-use mathlib.Core.Path.{◌≡◌, refl}
+use mathlib.Core.Path.{◌≡◌, refl, sym, ap, ◌∙◌}
 use mathlib.Core.Bool.{Bool, true, false, ◌&&◌, and_assoc}
-use mathlib.Core.List.{List}
+use mathlib.Core.List.{List, [], ◌∷◌}
 use Prim.Native.Nat.{ℕ, suc, ◌+◌, ◌≤◌}
 use native.Mathlib.Omega.{arith}
 use borrow.Author.Tests.{leb-true, eqb-true, eq-eqb, ne_eqb}
 use lib.Dec.{leb}
 use lib.ListN.{length, drop, length-drop}
-use lib.Seq.{length-take-le}
-use Rattle.basics.specs.Lists.{all_up_to}
+use lib.Seq.{length-take-le, drop-cons}
+use Rattle.std.specs.Array.{IsWholeChunk}
 use Rattle.basics.proofs.Flags.{left_of_both, right_of_both}
 use Rattle.keys.specs.Keys.{last_key}
 use Rattle.record.specs.declared.Rest.{Rest}
+use Rattle.record.specs.declared.Dock.{Dock}
 use Rattle.record.specs.Parts.{dock_with}
 use Rattle.record.specs.Sized.{IsSized}
-use Rattle.range.specs.Range.{good_rest, in_range}
-use Rattle.layout.specs.Layout.{types_at, closed_at, counts_at, held_at, queue_at, size, part, small, map_in, types_in, closed_in, counts_in, held_in, rest_in, record_in, is_record}
+use Rattle.range.specs.Range.{in_range}
+use Rattle.layout.specs.Layout.{types_at, closed_at, counts_at, held_at, queue_at, size, part, small_at, small, map_in, types_in, closed_in, counts_in, held_in, rest_in, record_in, is_record}
 
 module _ (l : List ℕ) (h : is_record l ≡ true) where
   pub record_size : length l ≡ size
@@ -34,19 +35,35 @@ module _ (l : List ℕ) (h : is_record l ≡ true) where
   unfolding is_record
   handover_small = leb-true (small 12 l) 1 (search (left_of_both, right_of_both))
 
-pub another_size : (l : List ℕ) → (length l ≡ size → ⊥) → false ≡ is_record l
+pub another_size : (l : List ℕ) → (length l ≡ size → ⊥) → is_record l ≡ false
 unfolding is_record
 another_size l n = rw (ne_eqb (length l) size n)
 
-pub joined_record : (l : List ℕ) (map rest : Bool) → length l ≡ size → map ≡ all_up_to last_key (map_in l) → rest ≡ good_rest (rest_in l)
-    → (leb (small 10 l) 1 && leb (small 12 l) 1 && map && rest) ≡ is_record l
-unfolding is_record in_range
-joined_record l map rest s m r = rw (eq-eqb (length l) size s, ← m, ← r) (simp and_assoc)
-
 -- Copies of the parts make the record that lies in the bytes.
-pub copied : (l map closed counts held types : List ℕ) (rest : Rest) → map ≡ map_in l → closed ≡ closed_in l → counts ≡ counts_in l → held ≡ held_in l
-    → types ≡ types_in l → rest ≡ rest_in l → dock_with map closed counts held types rest ≡ record_in l
-copied l map closed counts held types rest m c n k t r = rw (m, c, n, k, t, r)
+pub copied : (b map closed counts held types : List ℕ) (rest : Rest) → map ≡ map_in b → closed ≡ closed_in b → counts ≡ counts_in b → held ≡ held_in b
+    → types ≡ types_in b → rest ≡ rest_in b → dock_with map closed counts held types rest ≡ record_in b
+copied b map closed counts held types rest m c n k t r = rw (m, c, n, k, t, r)
+
+-- The tests of such a copy, of all the bytes, tell whether they are a record.
+module _ (l b : List ℕ) (whole : IsWholeChunk l b size) (d : Dock) (same : d ≡ record_in b) (range : Bool) (r : range ≡ in_range d) where
+  joined_record : (leb (small 10 b) 1 && leb (small 12 b) 1 && range) ≡ is_record l
+  unfolding is_record
+  joined_record = rw (eq-eqb (length l) size whole.long, r, same, whole.same) (simp and_assoc)
+
+  pub found_record : (leb (small 10 b) 1 && leb (small 12 b) 1 && range) ≡ true → (is_record l ≡ true) × (d ≡ record_in l)
+  found_record t = (sym joined_record ∙ t, same ∙ ap record_in whole.same)
+
+  pub found_none : (leb (small 10 b) 1 && leb (small 12 b) 1 && range) ≡ false → is_record l ≡ false
+  found_none f = sym joined_record ∙ f
+
+-- The replies are three of the small parts.
+pub three_replies : (l : List ℕ) → length l ≡ size → part (small_at + 6) 3 l ≡ small 6 l ∷ small 7 l ∷ small 8 l ∷ []
+three_replies l s =
+    rw (
+      drop-cons l (small_at + 6) 0 (omega (arith, s)),
+      drop-cons l (small_at + 7) 0 (omega (arith, s)),
+      drop-cons l (small_at + 8) 0 (omega (arith, s)),
+    )
 
 -- Every part of bytes that are a record has its size.
 part_size : (l : List ℕ) (at n : ℕ) → at + n ≤ length l → length (part at n l) ≡ n

@@ -96,7 +96,3 @@ record_in l = dock_with (map_in l) (closed_in l) (counts_in l) (held_in l) (type
 unfoldable pub is_record : List ℕ → Bool
 is_record l =
     both (eqb (length l) size) (both (leb (small 10 l) 1) (both (leb (small 12 l) 1) (in_range (record_in l))))
-
--- Bytes with others at a place, over as many.
-unfoldable pub put_at : ℕ → List ℕ → List ℕ → List ℕ
-put_at at bytes l = take at l ++ (bytes ++ drop (at + length bytes) l)

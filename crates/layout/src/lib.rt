@@ -1,8 +1,5 @@
-// The record as bytes, as a C caller lends it (docs/RECORD.md, "As bytes"): 585 of them, part behind part.
+// The record as bytes, as a C caller lends it (docs/RECORD.md, "As bytes"): 606 of them, part behind part.
 #![tactic(auto)]
-
-ghost use Rattle.std.specs.Prelude.{◌≡◌, ◌+◌, ◌≤◌, length};
-ghost use Rattle.layout.specs.Layout.{put_at};
 
 pub mod reading; // reading.rt: the parts of the record in lent bytes
 pub mod writing; // writing.rt: parts of the record put into lent bytes
@@ -33,12 +30,8 @@ pub const INDICATORS: usize = RATE + 1;
 
 pub const FIRST_REPLY: usize = INDICATORS + 1;
 
-pub const SECOND_REPLY: usize = FIRST_REPLY + 1;
-
-pub const THIRD_REPLY: usize = SECOND_REPLY + 1;
-
 // How many of the replies wait.
-pub const REPLIES: usize = THIRD_REPLY + 1;
+pub const REPLIES: usize = FIRST_REPLY + 3;
 
 pub const SCANNING: usize = REPLIES + 1;
 
@@ -49,24 +42,3 @@ pub const HANDOVER: usize = WAITING + 1;
 pub const GIVEN: usize = HANDOVER + 1;
 
 pub const SIZE: usize = GIVEN + 1;
-
-// Bytes copied over as many others.
-pub fn fill(to: &mut [u8], from: &[u8])
-    requires { length to.old ≡ length from.now }
-    ensures { to.new ≡ from.now }
-{
-    let mut i: usize = 0;
-    while i < from.len() {
-        to[i] = from[i];
-        i += 1;
-    }
-}
-
-// Bytes put at a place, over as many others.
-pub fn put(lent: &mut [u8], at: usize, from: &[u8])
-    requires { at + length from.now ≤ length lent.old }
-    ensures { lent.new ≡ put_at at from.now lent.old }
-{
-    let end = at + from.len();
-    fill(&mut lent[at..end], from);
-}

@@ -1,73 +1,33 @@
 // The record in lent bytes, and whether they are one.
-ghost use Rattle.std.specs.Prelude.{◌≡◌, length};
-ghost use Rattle.layout.specs.Layout.{size, map_in, types_in, closed_in, counts_in, held_in, rest_in, is_record};
+ghost use Rattle.std.specs.Prelude.{◌≡◌, ◌+◌, ◌≤◌, true, false, length, MatchOption};
+ghost use Rattle.layout.specs.Layout.{size, part, rest_in, record_in, is_record};
 
 use crate::{
     CLOSED, COUNTDOWN, COUNTS, FIRST_REPLY, GIVEN, HANDOVER, HELD, INDICATORS, QUEUE, QUEUED, RATE,
-    REPEATING, REPLIES, SCANNING, SECOND_REPLY, SET, SIZE, THIRD_REPLY, TYPES, WAITING, fill,
+    REPEATING, REPLIES, SCANNING, SET, SIZE, TYPES, WAITING,
 };
-use contacts::{Columns, Counts};
 use queue::Queue;
-use record::{Held, Map, Mode, Outgoing, Rest, Types};
+use record::{Dock, Mode, Outgoing, Rest};
 use replies::Replies;
 
-// The arrays, one after the other.
-pub fn map_in(lent: &[u8]) -> Map
-    requires { length lent.now ≡ size }
-    ensures { result ≡ map_in lent.now }
+// As many bytes as a part has, from a place on.
+fn part_in<const N: usize>(lent: &[u8], at: usize) -> [u8; N]
+    requires { at + N ≤ length lent.now }
+    ensures { result ≡ part at N lent.now }
 {
-    let mut map = [0u8; 144];
-    fill(&mut map, &lent[0..TYPES]);
-    map
-}
-
-pub fn types_in(lent: &[u8]) -> Types
-    requires { length lent.now ≡ size }
-    ensures { result ≡ types_in lent.now }
-{
-    let mut types = [0u8; keys::PLACES];
-    fill(&mut types, &lent[TYPES..CLOSED]);
-    types
-}
-
-pub fn closed_in(lent: &[u8]) -> Columns
-    requires { length lent.now ≡ size }
-    ensures { result ≡ closed_in lent.now }
-{
-    let mut closed = [0u8; 18];
-    fill(&mut closed, &lent[CLOSED..COUNTS]);
-    closed
-}
-
-pub fn counts_in(lent: &[u8]) -> Counts
-    requires { length lent.now ≡ size }
-    ensures { result ≡ counts_in lent.now }
-{
-    let mut counts = [0u8; 144];
-    fill(&mut counts, &lent[COUNTS..HELD]);
-    counts
-}
-
-pub fn held_in(lent: &[u8]) -> Held
-    requires { length lent.now ≡ size }
-    ensures { result ≡ held_in lent.now }
-{
-    let mut held = [0u8; 144];
-    fill(&mut held, &lent[HELD..QUEUE]);
-    held
+    let mut part = [0; N];
+    part.copy_from_slice(&lent[at..at + N]);
+    part
 }
 
 // All but the arrays.
-pub fn rest_in(lent: &[u8]) -> Rest
-    requires { length lent.now ≡ size }
+fn rest_in(lent: &[u8; SIZE]) -> Rest
     ensures { result ≡ rest_in lent.now }
 {
-    let mut bytes = [0u8; 16];
-    fill(&mut bytes, &lent[QUEUE..QUEUED]);
     Rest {
         outgoing: Outgoing {
             queue: Queue {
-                bytes,
+                bytes: part_in(lent, QUEUE),
                 length: lent[QUEUED] as usize,
             },
             repeating: lent[REPEATING],
@@ -79,7 +39,7 @@ pub fn rest_in(lent: &[u8]) -> Rest
             indicators: lent[INDICATORS],
         },
         replies: Replies {
-            bytes: [lent[FIRST_REPLY], lent[SECOND_REPLY], lent[THIRD_REPLY]],
+            bytes: part_in(lent, FIRST_REPLY),
             length: lent[REPLIES],
         },
         scanning: lent[SCANNING] == 1,
@@ -89,16 +49,19 @@ pub fn rest_in(lent: &[u8]) -> Rest
     }
 }
 
-// These bytes are a record in its range.
-pub fn is_record(lent: &[u8]) -> bool
-    ensures { result ≡ is_record lent.now }
+// The record that these bytes are, if they are one in its range.
+pub fn record_in(lent: &[u8]) -> Option<Dock>
+    ensures { MatchOption result (is_record lent.now ≡ false) (λ dock. (is_record lent.now ≡ true) × (dock ≡ record_in lent.now)) }
 {
-    if lent.len() != SIZE {
-        return false;
-    }
-    let rest = rest_in(lent);
-    (lent[SCANNING] <= 1)
-        & (lent[HANDOVER] <= 1)
-        & range::all_up_to(keys::LAST_KEY, &lent[0..TYPES])
-        & range::is_good_rest(rest)
+    let bytes = lent.as_array::<SIZE>()?;
+    let dock = Dock {
+        map: part_in(bytes, 0),
+        types: part_in(bytes, TYPES),
+        closed: part_in(bytes, CLOSED),
+        counts: part_in(bytes, COUNTS),
+        held: part_in(bytes, HELD),
+        rest: rest_in(bytes),
+    };
+    let good = (bytes[SCANNING] <= 1) & (bytes[HANDOVER] <= 1) & range::in_range(dock);
+    if good { Some(dock) } else { None }
 }
