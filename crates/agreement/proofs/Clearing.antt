@@ -8,11 +8,12 @@ use Prim.Native.Nat.{ℕ}
 use native.Mathlib.Omega.{arith}
 use borrow.Author.Tests.{eqb-true, ne_eqb, leb-true, leb-false}
 use lib.Dec.{eqb, leb}
+use Rattle.std.specs.Prelude.{Result, Ok, Err}
 use Rattle.basics.specs.Choice.{pick, both, either}
 use Rattle.dock.specs.Answers.{is_accepted}
 use Rattle.dock.specs.Frame.{took_frame, frame_of}
-use Rattle.frames.specs.declared.Unpacked.{Unpacked}
-use Rattle.frames.specs.declared.Unpacked.TheVariants.{Byte, Broken, TooLarge}
+use Rattle.frames.specs.declared.FrameError.{FrameError}
+use Rattle.frames.specs.declared.FrameError.TheVariants.{Broken, TooLarge}
 use Rattle.frames.specs.Frames.{unpacked_of}
 use Rattle.commands.specs.Commands.{obeyed, commanded}
 use Rattle.commands.proofs.Ladder.{Mild, by_command}
@@ -79,10 +80,10 @@ pub clearing_drops : (d : Dock) (number : ℕ) → in_range d ≡ true → is_cl
 unfolding frame_of took_frame is_clearing
 clearing_drops d number range = rw range (go (unpacked_of number))
   where
-    go : (u : Unpacked) → carries clears u ≡ true
+    go : (u : Result ℕ FrameError) → carries clears u ≡ true
         → bytes_of (took_frame u d).dock ≡ pick (is_accepted (took_frame u d).answer) (frame_bytes u d) []
-    go (Byte byte) c =
+    go (Ok byte) c =
         let then = took_byte byte d in
         closing_bytes_lem then ∙ ap (λ (l : List ℕ). l ++ closing_bytes then) (took_empties byte d c)
-    go Broken c = never false c refl
-    go TooLarge c = never false c refl
+    go (Err Broken) c = never false c refl
+    go (Err TooLarge) c = never false c refl

@@ -8,10 +8,11 @@ use Prim.Native.Nat.{ℕ, ◌≤◌, ◌<◌}
 use native.Mathlib.Omega.{arith}
 use borrow.Author.Tests.{eqb-true, eqb-false, leb-false}
 use lib.Dec.{eqb, leb}
+use Rattle.std.specs.Prelude.{Result, Ok, Err}
 use Rattle.basics.specs.Choice.{pick, both, either, between}
 use Rattle.dock.specs.Frame.{took_frame, frame_of}
-use Rattle.frames.specs.declared.Unpacked.{Unpacked}
-use Rattle.frames.specs.declared.Unpacked.TheVariants.{Byte, Broken, TooLarge}
+use Rattle.frames.specs.declared.FrameError.{FrameError}
+use Rattle.frames.specs.declared.FrameError.TheVariants.{Broken, TooLarge}
 use Rattle.frames.specs.Frames.{unpacked_of}
 use Rattle.history.specs.Scans.{counted_all}
 use Rattle.commands.specs.Commands.{replying, cleared, unrepeated, restarted, obeyed, commanded}
@@ -88,10 +89,10 @@ pub frame_settled : (d : Dock) (o : Onlooker) (number : ℕ) → in_range d ≡ 
 unfolding frame_of took_frame saw_byte
 frame_settled d o number range s = rw range (go (unpacked_of number))
   where
-    go : (u : Unpacked) → Settled (took_frame u d).dock (saw_frame u o).scans
-    go (Byte byte) = closing_settled (took_byte byte d) (pick (eqb byte 0xff) [] o.scans) (took_ready d o.scans s.ready byte)
-    go Broken = closing_settled (replying (0xfe ∷ []) d) o.scans s.ready
-    go TooLarge = s
+    go : (u : Result ℕ FrameError) → Settled (took_frame u d).dock (saw_frame u o).scans
+    go (Ok byte) = closing_settled (took_byte byte d) (pick (eqb byte 0xff) [] o.scans) (took_ready d o.scans s.ready byte)
+    go (Err Broken) = closing_settled (replying (0xfe ∷ []) d) o.scans s.ready
+    go (Err TooLarge) = s
 
 -- A byte that does not clear the queue is none of the commands that do something.
 pub mild : (byte : ℕ) → clears byte ≡ false → Mild byte
@@ -148,7 +149,7 @@ pub frame_follows : (d : Dock) (t : Terminal) (number : ℕ) → in_range d ≡ 
 unfolding frame_of took_frame is_clearing
 frame_follows d t number range c f = rw range (go (unpacked_of number) c)
   where
-    go : (u : Unpacked) → carries clears u ≡ false → Follows (took_frame u d).dock t
-    go (Byte byte) c = closing_follows (took_byte byte d) t (took_follows d t f byte c)
-    go Broken c = closing_follows (replying (0xfe ∷ []) d) t f
-    go TooLarge c = f
+    go : (u : Result ℕ FrameError) → carries clears u ≡ false → Follows (took_frame u d).dock t
+    go (Ok byte) c = closing_follows (took_byte byte d) t (took_follows d t f byte c)
+    go (Err Broken) c = closing_follows (replying (0xfe ∷ []) d) t f
+    go (Err TooLarge) c = f

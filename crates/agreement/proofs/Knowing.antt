@@ -8,6 +8,7 @@ use Prim.Native.Nat.{ℕ, ◌≤◌, ◌<◌}
 use native.Mathlib.Omega.{arith}
 use borrow.Author.Tests.{eqb-true, leb-true, leb-false, ne_eqb, lt-leb}
 use lib.Dec.{eqb, leb}
+use Rattle.std.specs.Prelude.{Result, Ok, Err}
 use Rattle.basics.specs.Choice.{pick, both, between}
 use Rattle.basics.proofs.Cases.{by_cases, picked, two_by_cases}
 use Rattle.basics.proofs.Flags.{both_false}
@@ -18,8 +19,8 @@ use Rattle.dock.specs.Frame.{took_frame, frame_of}
 use Rattle.dock.specs.Read.{read_of}
 use Rattle.dock.specs.Scan.{scan_of}
 use Rattle.dock.specs.Swap.{swap_of}
-use Rattle.frames.specs.declared.Unpacked.{Unpacked}
-use Rattle.frames.specs.declared.Unpacked.TheVariants.{Byte, Broken, TooLarge}
+use Rattle.frames.specs.declared.FrameError.{FrameError}
+use Rattle.frames.specs.declared.FrameError.TheVariants.{Broken, TooLarge}
 use Rattle.frames.specs.Frames.{unpacked_of}
 use Rattle.host.specs.declared.values.Asked.{Asked}
 use Rattle.host.specs.declared.values.Asked.TheVariants.{Indicators, Set, WhichSet, Rate, KeyType, Wrong}
@@ -209,16 +210,16 @@ module _ (d : Dock) (o : Onlooker) (k : Knows d o) (range : in_range d ≡ true)
   unfolding frame_of took_frame saw_byte
   frame_knows number = rw range (go (unpacked_of number))
     where
-      go : (u : Unpacked) → Knows (took_frame u d).dock (saw_frame u o)
-      go (Byte byte) =
+      go : (u : Result ℕ FrameError) → Knows (took_frame u d).dock (saw_frame u o)
+      go (Ok byte) =
           closing_knows (took_byte byte d) (saw_byte byte o) (
             took_map d byte ∙ k.0,
             took_scanning d byte ∙ ap (scanning_after byte) k.1,
             took_waiting d byte ∙ ap (waiting_after byte) k.2,
             took_chosen d byte ∙ ap₂ (set_after byte) k.2 k.3,
           )
-      go Broken = closing_knows (replying (0xfe ∷ []) d) o k
-      go TooLarge = k
+      go (Err Broken) = closing_knows (replying (0xfe ∷ []) d) o k
+      go (Err TooLarge) = k
 
 -- The set after a frame that does not clear the queue, where none is being chosen.
 pub frame_set : (d : Dock) (number : ℕ) → in_range d ≡ true → is_clearing number ≡ false → (d.rest.waiting ≡ 0xf0 → ⊥)
@@ -226,7 +227,7 @@ pub frame_set : (d : Dock) (number : ℕ) → in_range d ≡ true → is_clearin
 unfolding frame_of took_frame is_clearing
 frame_set d number range c firm = rw range (go (unpacked_of number) c)
   where
-    go : (u : Unpacked) → carries clears u ≡ false → (took_frame u d).dock.rest.mode.set ≡ d.rest.mode.set
-    go (Byte byte) c = closing_set (took_byte byte d) ∙ took_set d byte (mild byte c) firm
-    go Broken c = closing_set (replying (0xfe ∷ []) d)
-    go TooLarge c = refl
+    go : (u : Result ℕ FrameError) → carries clears u ≡ false → (took_frame u d).dock.rest.mode.set ≡ d.rest.mode.set
+    go (Ok byte) c = closing_set (took_byte byte d) ∙ took_set d byte (mild byte c) firm
+    go (Err Broken) c = closing_set (replying (0xfe ∷ []) d)
+    go (Err TooLarge) c = refl

@@ -8,6 +8,7 @@ use Prim.Native.Nat.{ℕ, ◌≤◌}
 use native.Mathlib.Omega.{arith}
 use borrow.Author.Tests.{eqb-false, not-true}
 use lib.ListN.{length, get_or, drop}
+use Rattle.std.specs.Prelude.{Result, Ok, Err}
 use Rattle.basics.specs.Choice.{pick, either}
 use Rattle.basics.proofs.Flags.{left_of_both, right_of_both}
 use Rattle.dock.specs.declared.Answered.{Answered}
@@ -16,8 +17,8 @@ use Rattle.dock.specs.Answers.{is_accepted}
 use Rattle.dock.specs.Swap.{opened, remapped, swapped, swap_of}
 use Rattle.dock.specs.Frame.{took_frame, frame_of}
 use Rattle.dock.specs.Read.{oldest, without_oldest, oldest_reply, replies_behind, remembering, reply_taken, key_byte_taken, read_of}
-use Rattle.frames.specs.declared.Unpacked.{Unpacked}
-use Rattle.frames.specs.declared.Unpacked.TheVariants.{Byte, Broken, TooLarge}
+use Rattle.frames.specs.declared.FrameError.{FrameError}
+use Rattle.frames.specs.declared.FrameError.TheVariants.{Broken, TooLarge}
 use Rattle.frames.specs.Frames.{unpacked_of}
 use Rattle.commands.specs.Commands.{replying, commanded}
 use Rattle.host.specs.Values.{took_byte}
@@ -68,13 +69,13 @@ module _ (d : Dock) where
   unfolding frame_of took_frame is_clearing closing_bytes
   frame_bytes_lem number range = rw range (go (unpacked_of number))
     where
-      go : (u : Unpacked) → carries clears u ≡ false
+      go : (u : Result ℕ FrameError) → carries clears u ≡ false
           → bytes_of (took_frame u d).dock ≡ bytes_of d ++ pick (is_accepted (took_frame u d).answer) (frame_bytes u d) []
-      go (Byte byte) mildly =
+      go (Ok byte) mildly =
           let then = took_byte byte d in
           closing_bytes_lem then ∙ ap (λ (k : Keys). waiting k.queue ++ closing_bytes then) (took_keys byte mildly)
-      go Broken mildly = closing_bytes_lem (replying (0xfe ∷ []) d)
-      go TooLarge mildly = sym (append-nil (bytes_of d))
+      go (Err Broken) mildly = closing_bytes_lem (replying (0xfe ∷ []) d)
+      go (Err TooLarge) mildly = sym (append-nil (bytes_of d))
 
 -- Some bytes are the first and the rest.
 first_and_rest : (l : List ℕ) → 1 ≤ length l → l ≡ get_or l 0 0 ∷ drop 1 l

@@ -6,12 +6,12 @@ use Prim.Native.Nat.{ℕ}
 use borrow.Author.Tests.{eqb-true}
 use lib.Dec.{eqb}
 use lib.ListN.{length}
-use Rattle.std.specs.Prelude.{None, Ok, Err}
+use Rattle.std.specs.Prelude.{None, Ok, Err, Result}
 use Rattle.basics.specs.Lists.{all_up_to}
 use Rattle.basics.proofs.Cases.{by_cases, picked}
 use Rattle.commands.specs.Commands.{replying}
-use Rattle.frames.specs.declared.Unpacked.{Unpacked}
-use Rattle.frames.specs.declared.Unpacked.TheVariants.{Byte, Broken, TooLarge}
+use Rattle.frames.specs.declared.FrameError.{FrameError}
+use Rattle.frames.specs.declared.FrameError.TheVariants.{Broken, TooLarge}
 use Rattle.frames.specs.Frames.{unpacked_of}
 use Rattle.host.specs.Values.{took_byte}
 use Rattle.keys.specs.Keys.{last_key}
@@ -50,10 +50,10 @@ module _ (P : Answered → Type 0) (d : Dock) (left : (refusal : Refusal) → P 
   unfolding frame_of took_frame
   by_frame number took broken = picked P (in_range d) _ _ (go (unpacked_of number)) (left BadRecord)
     where
-      go : (u : Unpacked) → P (took_frame u d)
-      go (Byte byte) = took byte
-      go Broken = broken
-      go TooLarge = left FrameNumber
+      go : (u : Result ℕ FrameError) → P (took_frame u d)
+      go (Ok byte) = took byte
+      go (Err Broken) = broken
+      go (Err TooLarge) = left FrameNumber
 
 -- The same of a read: refused, or by what waits.
 pub by_read : (P : Taken → Type 0) (d : Dock) → P (taken (Err BadRecord) d)

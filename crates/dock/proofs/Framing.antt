@@ -3,9 +3,9 @@ use mathlib.Core.Path.{◌≡◌, sym, ap, ◌∙◌}
 use mathlib.Core.Bool.{true, false}
 use mathlib.Core.List.{[], ◌∷◌}
 use Prim.Native.Nat.{ℕ}
-use Rattle.std.specs.Prelude.{Ok, Err}
-use Rattle.frames.specs.declared.Unpacked.{Unpacked}
-use Rattle.frames.specs.declared.Unpacked.TheVariants.{Byte, Broken, TooLarge}
+use Rattle.std.specs.Prelude.{Ok, Err, Result}
+use Rattle.frames.specs.declared.FrameError.{FrameError}
+use Rattle.frames.specs.declared.FrameError.TheVariants.{Broken, TooLarge}
 use Rattle.frames.specs.Frames.{unpacked_of}
 use Rattle.commands.specs.Commands.{replying}
 use Rattle.host.specs.Values.{took_byte}
@@ -26,19 +26,19 @@ module _ (d : Dock) (number : ℕ) where
   unfolding frame_of
   frame_taken h = rw h
 
-  module _ (unpacked : Unpacked) (u : unpacked ≡ unpacked_of number) where
-    by_case : (which : Unpacked) → unpacked ≡ which → took_frame which d ≡ took_frame (unpacked_of number) d
-    by_case which i = ap (λ (x : Unpacked). took_frame x d) (sym i ∙ u)
+  module _ (unpacked : Result ℕ FrameError) (u : unpacked ≡ unpacked_of number) where
+    by_case : (which : Result ℕ FrameError) → unpacked ≡ which → took_frame which d ≡ took_frame (unpacked_of number) d
+    by_case which i = ap (λ (x : Result ℕ FrameError). took_frame x d) (sym i ∙ u)
 
-    pub frame_too_large : unpacked ≡ TooLarge → answered (Err FrameNumber) d ≡ took_frame (unpacked_of number) d
+    pub frame_too_large : unpacked ≡ Err TooLarge → answered (Err FrameNumber) d ≡ took_frame (unpacked_of number) d
     unfolding took_frame
-    frame_too_large i = by_case TooLarge i
+    frame_too_large i = by_case (Err TooLarge) i
 
     module _ (next r : Dock) (c : r ≡ closing next) where
-      pub frame_broken : unpacked ≡ Broken → next ≡ replying (0xfe ∷ []) d → answered (Ok tt) r ≡ took_frame (unpacked_of number) d
+      pub frame_broken : unpacked ≡ Err Broken → next ≡ replying (0xfe ∷ []) d → answered (Ok tt) r ≡ took_frame (unpacked_of number) d
       unfolding took_frame
-      frame_broken i n = rw (c, n) (by_case Broken i)
+      frame_broken i n = rw (c, n) (by_case (Err Broken) i)
 
-      pub frame_byte : (byte : ℕ) → unpacked ≡ Byte byte → next ≡ took_byte byte d → answered (Ok tt) r ≡ took_frame (unpacked_of number) d
+      pub frame_byte : (byte : ℕ) → unpacked ≡ Ok byte → next ≡ took_byte byte d → answered (Ok tt) r ≡ took_frame (unpacked_of number) d
       unfolding took_frame
-      frame_byte byte i n = rw (c, n) (by_case (Byte byte) i)
+      frame_byte byte i n = rw (c, n) (by_case (Ok byte) i)

@@ -10,7 +10,7 @@ use Rattle.basics.specs.Lists.{all_up_to}
 use Rattle.basics.specs.Said.{Said, accepted}
 use Rattle.basics.proofs.Cases.{picked, two_by_cases}
 use Rattle.keys.specs.Keys.{last_key}
-use Rattle.frames.specs.declared.Unpacked.{Unpacked}
+use Rattle.frames.specs.declared.FrameError.{FrameError}
 use Rattle.frames.specs.Frames.{whole, unpacked_of}
 use Rattle.maps.specs.Maps.{has_double}
 use Rattle.record.specs.declared.Dock.{Dock}
@@ -63,9 +63,9 @@ module _ (d : Dock) where
   unfolding Says took_frame frame_of frame_said unpacked_of
   frame_says number =
       two_by_cases Says (in_range d) _ _ _ _
-      (λ fine. two_by_cases (λ (u : Unpacked). Says (took_frame u d)) (ltb 2047 number) _ _ _ _
+      (λ fine. two_by_cases (λ (u : Result ℕ FrameError). Says (took_frame u d)) (ltb 2047 number) _ _ _ _
       (λ large. refl)
-      (λ fine. picked (λ (u : Unpacked). Says (took_frame u d) (accepted [])) (whole number) _ _ refl refl))
+      (λ fine. picked (λ (u : Result ℕ FrameError). Says (took_frame u d) (accepted [])) (whole number) _ _ refl refl))
       (λ bad. refl)
 
   pub read_says : taken_says (read_of d) ≡ read_said d

@@ -1,10 +1,10 @@
 -- A frame from the host (docs/RULES.md, sections 2 and 11). Assumes nothing.
-use Rattle.std.specs.Prelude.{ℕ, [], ◌∷◌, ltb, Ok, Err}
+use Rattle.std.specs.Prelude.{ℕ, [], ◌∷◌, ltb, Ok, Err, Result}
 use Rattle.basics.specs.Choice.{pick}
 use Rattle.basics.specs.Said.{Said, accepted, refused}
 use Rattle.hostbytes.specs.Named as host
-use Rattle.frames.specs.declared.Unpacked.{Unpacked}
-use Rattle.frames.specs.declared.Unpacked.TheVariants.{Byte, Broken, TooLarge}
+use Rattle.frames.specs.declared.FrameError.{FrameError}
+use Rattle.frames.specs.declared.FrameError.TheVariants.{Broken, TooLarge}
 use Rattle.frames.specs.Frames.{unpacked_of}
 use Rattle.commands.specs.Commands.{replying}
 use Rattle.host.specs.Values.{took_byte}
@@ -15,10 +15,10 @@ use Rattle.dock.specs.Answers.{Answered, answered}
 use Rattle.dock.specs.Closing.{closing}
 
 -- A frame unpacked: a broken one is answered FE.
-unfoldable pub took_frame : Unpacked → Dock → Answered
-took_frame (Byte byte) d = answered (Ok tt) (closing (took_byte byte d))
-took_frame Broken d = answered (Ok tt) (closing (replying (host.resend ∷ []) d))
-took_frame TooLarge d = answered (Err FrameNumber) d
+unfoldable pub took_frame : Result ℕ FrameError → Dock → Answered
+took_frame (Ok byte) d = answered (Ok tt) (closing (took_byte byte d))
+took_frame (Err Broken) d = answered (Ok tt) (closing (replying (host.resend ∷ []) d))
+took_frame (Err TooLarge) d = answered (Err FrameNumber) d
 
 -- The frame call: the record first, then a number over 2047.
 unfoldable pub frame_of : Dock → ℕ → Answered

@@ -8,7 +8,7 @@ use lib.Dec.{T, eqb, eqb→eq}
 use borrow.Author.Tests.{le-ltb, eq-eqb}
 use Rattle.basics.specs.Choice.{both}
 use Rattle.basics.proofs.Tables.{both_left, both_right}
-use Rattle.frames.specs.declared.Unpacked.TheVariants.{Byte}
+use Rattle.std.specs.Prelude.{Ok}
 use Rattle.frames.specs.Frames.{parity, packed_of, bit, byte_of, whole, unpacked_of}
 use Rattle.frames.proofs.Packing.{parity_small}
 
@@ -37,7 +37,7 @@ module _ (b : ℕ) (h : b < 256) where
   unfolding whole
   packed_is_whole = simp (byte_bits, eq-eqb _ _ start_bit, eq-eqb _ _ parity_bit, eq-eqb _ _ stop_bit)
 
-pub pack_unpack : (b : ℕ) → b < 256 → unpacked_of (packed_of b) ≡ Byte b
+pub pack_unpack : (b : ℕ) → b < 256 → unpacked_of (packed_of b) ≡ Ok b
 unfolding unpacked_of
 pack_unpack b h = simp (le-ltb _ _ (frame_small b h), packed_is_whole b h, byte_bits b h)
 

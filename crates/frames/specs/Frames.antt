@@ -1,10 +1,10 @@
 -- Frames as numbers (docs/RULES.md, section 2). Assumes nothing.
-use Rattle.std.specs.Prelude.{ℕ, ◌+◌, ◌*◌, ◌/◌, ◌%◌, ◌^◌, Bool, [], ◌∷◌, eqb, ltb}
+use Rattle.std.specs.Prelude.{ℕ, ◌+◌, ◌*◌, ◌/◌, ◌%◌, ◌^◌, Bool, [], ◌∷◌, eqb, ltb, Result, Ok, Err}
 use Rattle.std.specs.Int.Count.{ones}
 use Rattle.basics.specs.Choice.{pick, both}
 use Rattle.basics.specs.Said.{Said, accepted, refused}
-use Rattle.frames.specs.declared.Unpacked.{Unpacked}
-use Rattle.frames.specs.declared.Unpacked.TheVariants.{Byte, Broken, TooLarge}
+use Rattle.frames.specs.declared.FrameError.{FrameError}
+use Rattle.frames.specs.declared.FrameError.TheVariants.{Broken, TooLarge}
 
 -- The parity bit of a byte makes the number of ones of the two odd.
 unfoldable pub parity : ℕ → ℕ
@@ -27,14 +27,14 @@ unfoldable pub whole : ℕ → Bool
 whole n = both (eqb (bit n 0) 0) (both (eqb (bit n 9) (parity (byte_of n))) (eqb (bit n 10) 1))
 
 -- What unpacking gives: a number over 2047 is refused, a broken frame is told from a whole one.
-unfoldable pub unpacked_of : ℕ → Unpacked
-unpacked_of n = pick (ltb 2047 n) TooLarge (pick (whole n) (Byte (byte_of n)) Broken)
+unfoldable pub unpacked_of : ℕ → Result ℕ FrameError
+unpacked_of n = pick (ltb 2047 n) (Err TooLarge) (pick (whole n) (Ok (byte_of n)) (Err Broken))
 
 -- What each answer says (docs/RULES.md, section 9): a whole frame has its byte, a broken one has none.
-abbrev pub unpacked_says : Unpacked → Said
-unpacked_says (Byte byte) = accepted (byte ∷ [])
-unpacked_says Broken = accepted []
-unpacked_says TooLarge = refused 5
+abbrev pub unpacked_says : Result ℕ FrameError → Said
+unpacked_says (Ok byte) = accepted (byte ∷ [])
+unpacked_says (Err Broken) = accepted []
+unpacked_says (Err TooLarge) = refused 5
 
 -- What is said of a number, by the table.
 unfoldable pub unpacked_said : ℕ → Said

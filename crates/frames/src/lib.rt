@@ -5,11 +5,9 @@ ghost use Rattle.std.specs.Prelude.{◌≡◌};
 ghost use Rattle.basics.specs.Said.{Answers};
 ghost use Rattle.frames.specs.Frames.{parity, packed_of, unpacked_of, unpacked_says, unpacked_said};
 
-// What unpacking a number finds.
-#[derive(Clone, Copy)]
-pub enum Unpacked {
-    // A whole frame, and the byte in it.
-    Byte(u8),
+// Why a number gives no byte.
+#[derive(Clone, Copy, PartialEq, Eq)]
+pub enum FrameError {
     // A wrong start, parity or stop bit.
     Broken,
     // No frame at all: a number over 2047 is refused.
@@ -35,15 +33,15 @@ pub fn pack(byte: u8) -> u16
 }
 
 // The byte of a frame, if the number is a frame and the frame is whole: then it is the frame of its byte.
-pub fn unpack(frame: u32) -> Unpacked
+pub fn unpack(frame: u32) -> Result<u8, FrameError>
     ensures { Answers unpacked_says result (unpacked_of frame) (unpacked_said frame) }
 {
     if 2047 < frame {
-        return Unpacked::TooLarge;
+        return Err(FrameError::TooLarge);
     }
     let byte = ((frame >> 1) & 255) as u8;
     if pack(byte) as u32 != frame {
-        return Unpacked::Broken;
+        return Err(FrameError::Broken);
     }
-    Unpacked::Byte(byte)
+    Ok(byte)
 }

@@ -1,10 +1,10 @@
 -- Answers as one number, for C (include/keydock.h): 0 or more is an answer, and a refusal is minus its number in docs/RULES.md,
 -- section 9. Assumes nothing.
-use Rattle.std.specs.Prelude.{ℕ, ◌+◌, ◌*◌, eqb, ℤ, pos, get_or}
+use Rattle.std.specs.Prelude.{ℕ, ◌+◌, ◌*◌, eqb, ℤ, pos, get_or, Result, Ok, Err}
 use Rattle.basics.specs.Choice.{pick}
 use Rattle.basics.specs.Said.{minus}
-use Rattle.frames.specs.declared.Unpacked.{Unpacked}
-use Rattle.frames.specs.declared.Unpacked.TheVariants.{Byte, Broken, TooLarge}
+use Rattle.frames.specs.declared.FrameError.{FrameError}
+use Rattle.frames.specs.declared.FrameError.TheVariants.{Broken, TooLarge}
 use Rattle.encoder.specs.declared.Encoded.{Encoded}
 use Rattle.encoder.specs.declared.Encoded.TheVariants.{Written, BadChoice, ShortOutput}
 use Rattle.reader.specs.declared.Event.{Event}
@@ -15,10 +15,10 @@ use Rattle.encoder.specs.Encoder as encoder
 use Rattle.reader.specs.Reader as reader
 
 -- A frame unpacked: its byte, -256 if it is broken, -5 if the number is over 2047.
-abbrev pub unpacked_number : Unpacked → ℤ
-unpacked_number (Byte byte) = pos byte
-unpacked_number Broken = minus 256
-unpacked_number TooLarge = minus (frames.unpacked_says TooLarge).number
+abbrev pub unpacked_number : Result ℕ FrameError → ℤ
+unpacked_number (Ok byte) = pos byte
+unpacked_number (Err Broken) = minus 256
+unpacked_number (Err TooLarge) = minus (frames.unpacked_says (Err TooLarge)).number
 
 -- A key encoded: how many bytes were written, or minus the refusal.
 abbrev pub encoded_number : Encoded → ℤ

@@ -9,7 +9,7 @@ ghost use Rattle.reader.specs.Reader.{answer_of, press_of};
 ghost use Rattle.keydock.specs.Numbers.{unpacked_number, encoded_number, event_number, key_of, answer_number, press_number};
 
 use encoder::Encoded;
-use frames::Unpacked;
+use frames::FrameError;
 use reader::{Event, refusal_of};
 
 // The frame of a byte.
@@ -25,9 +25,9 @@ pub fn keydock_unpack_frame(frame: u32) -> i32
 {
     let answer = frames::unpack(frame);
     match answer {
-        Unpacked::Byte(byte) => byte as i32,
-        Unpacked::Broken => -256,
-        Unpacked::TooLarge => -5,
+        Ok(byte) => i32::from(byte),
+        Err(FrameError::Broken) => -256,
+        Err(FrameError::TooLarge) => -5,
     }
 }
 

@@ -1,6 +1,6 @@
 -- The key bytes of a call and of a run: what goes into the queue, and what is given out of it (docs/RULES.md, sections 6 to 8).
 -- Assumes nothing.
-use Rattle.std.specs.Prelude.{ℕ, Bool, List, [], ◌∷◌, ◌++◌, get_or}
+use Rattle.std.specs.Prelude.{ℕ, Bool, List, [], ◌∷◌, ◌++◌, get_or, Result, Ok, Err}
 use Rattle.basics.specs.Choice.{pick}
 use Rattle.keys.specs.Keys.{last_key}
 use Rattle.codes.specs.declared.Action.TheVariants.{Repeat}
@@ -14,8 +14,8 @@ use Rattle.dock.specs.Scan.{listening, changed, quiet, scan_of}
 use Rattle.dock.specs.Swap.{remapped, swap_of}
 use Rattle.dock.specs.Frame.{frame_of}
 use Rattle.dock.specs.Read.{without_oldest, read_of}
-use Rattle.frames.specs.declared.Unpacked.{Unpacked}
-use Rattle.frames.specs.declared.Unpacked.TheVariants.{Byte, Broken, TooLarge}
+use Rattle.frames.specs.declared.FrameError.{FrameError}
+use Rattle.frames.specs.declared.FrameError.TheVariants.{Broken, TooLarge}
 use Rattle.frames.specs.Frames.{unpacked_of}
 use Rattle.host.specs.Values.{took_byte}
 use Rattle.keying.specs.Repeat.{ticked, is_due}
@@ -59,10 +59,10 @@ unfoldable pub scan_bytes : Dock → List ℕ → List ℕ
 scan_bytes d scan = pick (listening d) (heard_bytes d scan) (closing_bytes d)
 
 -- What a frame puts into it: nothing but what the end does, once its byte has done its work.
-abbrev pub frame_bytes : Unpacked → Dock → List ℕ
-frame_bytes (Byte byte) d = closing_bytes (took_byte byte d)
-frame_bytes Broken d = closing_bytes d
-frame_bytes TooLarge d = []
+abbrev pub frame_bytes : Result ℕ FrameError → Dock → List ℕ
+frame_bytes (Ok byte) d = closing_bytes (took_byte byte d)
+frame_bytes (Err Broken) d = closing_bytes d
+frame_bytes (Err TooLarge) d = []
 
 -- What a read puts into it, by what it gives: the end of the call, once a key byte has left the queue.
 abbrev pub read_bytes : Given → Dock → List ℕ

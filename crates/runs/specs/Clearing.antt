@@ -1,8 +1,8 @@
 -- The frames that demand 3 leaves out: they clear the queue (docs/RULES.md, section 13). Assumes nothing.
-use Rattle.std.specs.Prelude.{ℕ, Bool, false, eqb}
+use Rattle.std.specs.Prelude.{ℕ, Bool, false, eqb, Result, Ok, Err}
 use Rattle.basics.specs.Choice.{either, between}
-use Rattle.frames.specs.declared.Unpacked.{Unpacked}
-use Rattle.frames.specs.declared.Unpacked.TheVariants.{Byte, Broken, TooLarge}
+use Rattle.frames.specs.declared.FrameError.{FrameError}
+use Rattle.frames.specs.declared.FrameError.TheVariants.{Broken, TooLarge}
 use Rattle.frames.specs.Frames.{unpacked_of}
 use Rattle.dock.specs.Calls.{Call, Scan, Swap, Frame, Read}
 
@@ -11,10 +11,10 @@ unfoldable pub clears : ℕ → Bool
 clears byte = either (eqb byte 0xf0) (either (between 0xf4 0xfd byte) (eqb byte 0xff))
 
 -- A frame that carries a byte with some property; a broken one and one over 2047 carry none.
-abbrev pub carries : (ℕ → Bool) → Unpacked → Bool
-carries property (Byte byte) = property byte
-carries property Broken = false
-carries property TooLarge = false
+abbrev pub carries : (ℕ → Bool) → Result ℕ FrameError → Bool
+carries property (Ok byte) = property byte
+carries property (Err Broken) = false
+carries property (Err TooLarge) = false
 
 -- A frame whose byte clears the queue.
 unfoldable pub is_clearing : ℕ → Bool

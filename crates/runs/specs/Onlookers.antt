@@ -1,9 +1,9 @@
 -- What an onlooker knows who hears every call of a dock (docs/RULES.md, section 13). Assumes nothing.
-use Rattle.std.specs.Prelude.{ℕ, Bool, true, false, not, List, [], ◌∷◌, ◌++◌, eqb, leb, length}
+use Rattle.std.specs.Prelude.{ℕ, Bool, true, false, not, List, [], ◌∷◌, ◌++◌, eqb, leb, length, Result, Ok, Err}
 use Rattle.basics.specs.Choice.{pick, both}
 use Rattle.basics.specs.Lists.{all_up_to}
-use Rattle.frames.specs.declared.Unpacked.{Unpacked}
-use Rattle.frames.specs.declared.Unpacked.TheVariants.{Byte, Broken, TooLarge}
+use Rattle.frames.specs.declared.FrameError.{FrameError}
+use Rattle.frames.specs.declared.FrameError.TheVariants.{Broken, TooLarge}
 use Rattle.keys.specs.Keys.{last_key}
 use Rattle.maps.specs.Maps.{has_double}
 use Rattle.record.specs.Power.{plain_map}
@@ -68,7 +68,7 @@ saw_byte byte o =
     (pick (eqb byte 0xff) [] o.scans)
 
 -- A frame: a broken one and one over 2047 carry no byte.
-abbrev pub saw_frame : Unpacked → Onlooker → Onlooker
-saw_frame (Byte byte) o = saw_byte byte o
-saw_frame Broken o = o
-saw_frame TooLarge o = o
+abbrev pub saw_frame : Result ℕ FrameError → Onlooker → Onlooker
+saw_frame (Ok byte) o = saw_byte byte o
+saw_frame (Err Broken) o = o
+saw_frame (Err TooLarge) o = o

@@ -9,7 +9,7 @@ ghost use Rattle.dock.specs.Frame.{took_frame};
 use contacts::{Columns, Counts};
 use dock::closing::close_in_place;
 use dock::{Answer, AnsweredRest};
-use frames::Unpacked;
+use frames::FrameError;
 use host::{reply, take};
 use record::{Held, Rest, Types};
 
@@ -27,15 +27,15 @@ pub fn frame_in_place(
 {
     let unpacked = frames::unpack(number);
     match unpacked {
-        Unpacked::TooLarge => AnsweredRest {
+        Err(FrameError::TooLarge) => AnsweredRest {
             answer: Answer::FrameNumber,
             rest,
         },
-        Unpacked::Broken => AnsweredRest {
+        Err(FrameError::Broken) => AnsweredRest {
             answer: Answer::Accepted,
             rest: close_in_place(held, types, reply(rest, hostbytes::RESEND)),
         },
-        Unpacked::Byte(byte) => {
+        Ok(byte) => {
             let after = take(closed, counts, held, types, rest, byte);
             AnsweredRest {
                 answer: Answer::Accepted,
