@@ -1,12 +1,14 @@
 -- Reading key bytes, one at a time (docs/RULES.md, section 4). Assumes nothing.
-use Rattle.std.specs.Prelude.{ℕ, ◌+◌, ◌%◌, Bool, true, false, [], ◌∷◌, eqb, ltb, leb}
+use Rattle.std.specs.Prelude.{ℕ, ◌+◌, ◌%◌, Bool, true, false, [], ◌∷◌, eqb, ltb, leb, Option, Some, None, Result, Ok, Err}
 use Rattle.basics.specs.Choice.{pick, either, between}
 use Rattle.basics.specs.Said.{Said, accepted, refused}
 use Rattle.keys.specs.Keys.{code_in, alt_print, left_wrap, right_wrap, mark_of}
 use Rattle.keys.specs.Named.{print_key, pause_key}
 use Rattle.lookup.specs.Lookup.{key_with}
 use Rattle.reader.specs.declared.Event.{Event}
-use Rattle.reader.specs.declared.Event.TheVariants.{More, Pressed, Released, PauseStruck, Wrapping, Overrun, Unknown, BadState, BadSet}
+use Rattle.reader.specs.declared.Event.TheVariants.{More, Pressed, Released, PauseStruck, Wrapping, Overrun, Unknown}
+use Rattle.reader.specs.declared.ReadError.{ReadError}
+use Rattle.reader.specs.declared.ReadError.TheVariants.{BadState, BadSet}
 use Rattle.reader.specs.declared.Answer.{Answer}
 use Rattle.reader.specs.declared.Press.{Press}
 
@@ -92,11 +94,11 @@ read_byte set state byte =
     (in_set3 state byte)))
 
 -- The reader's answer: a state out of its range is refused first, then a set; neither moves the state.
-unfoldable pub answer_of : ℕ → ℕ → ℕ → Answer
+unfoldable pub answer_of : ℕ → ℕ → ℕ → Result Answer ReadError
 answer_of set state byte =
     pick (leb state 14)
-    (pick (between 1 3 set) (read_byte set state byte) (record { state = state; event = BadSet }))
-    (record { state = state; event = BadState })
+    (pick (between 1 3 set) (Ok (read_byte set state byte)) (Err BadSet))
+    (Err BadState)
 
 -- What each event says (docs/RULES.md, section 9): the place of an event in the list of section 4, counted from 0, and its key.
 abbrev pub event_says : Event → Said
@@ -107,30 +109,33 @@ event_says PauseStruck = accepted (3 ∷ [])
 event_says Wrapping = accepted (4 ∷ [])
 event_says Overrun = accepted (5 ∷ [])
 event_says Unknown = accepted (6 ∷ [])
-event_says BadState = refused 9
-event_says BadSet = refused 7
 
--- What an answer says is what its event says,
-abbrev pub answer_says : Answer → Said
-answer_says answer = event_says answer.event
+-- What each refusal says.
+abbrev pub error_says : ReadError → Said
+error_says BadState = refused 9
+error_says BadSet = refused 7
+
+-- What an answer says is what its event says, or the refusal,
+abbrev pub answer_says : Result Answer ReadError → Said
+answer_says (Ok answer) = event_says answer.event
+answer_says (Err error) = error_says error
 
 -- and this is what is said of a byte in a state of a set, by the table.
 unfoldable pub answer_said : ℕ → ℕ → ℕ → Said
 answer_said set state byte =
-    pick (leb state 14) (pick (between 1 3 set) (answer_says (read_byte set state byte)) (refused 7)) (refused 9)
+    pick (leb state 14) (pick (between 1 3 set) (event_says (read_byte set state byte).event) (refused 7)) (refused 9)
 
--- The key that a press carries, 0 for any other event.
-abbrev pub pressed_key : Event → ℕ
-pressed_key More = 0
-pressed_key (Pressed key) = key
-pressed_key (Released key) = 0
-pressed_key PauseStruck = 0
-pressed_key Wrapping = 0
-pressed_key Overrun = 0
-pressed_key Unknown = 0
-pressed_key BadState = 0
-pressed_key BadSet = 0
+-- The key that a press carries; no other event has one.
+abbrev pub pressed_key : Event → Option ℕ
+pressed_key More = None
+pressed_key (Pressed key) = Some key
+pressed_key (Released key) = None
+pressed_key PauseStruck = None
+pressed_key Wrapping = None
+pressed_key Overrun = None
+pressed_key Unknown = None
 
--- A press taken out of an answer, with the next state and the number of a refusal.
-abbrev pub press_of : Answer → Press
-press_of answer = record { state = answer.state; key = pressed_key answer.event; refusal = (answer_says answer).number }
+-- A press taken out of an answer, with the next state; a refusal is passed on.
+abbrev pub press_of : Result Answer ReadError → Result Press ReadError
+press_of (Ok answer) = Ok (record { state = answer.state; key = pressed_key answer.event })
+press_of (Err error) = Err error

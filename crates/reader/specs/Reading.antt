@@ -1,7 +1,7 @@
 -- Reading a run of bytes: the state at its end and the events on the way (docs/RULES.md, section 4). Assumes nothing.
 use Rattle.std.specs.Prelude.{ℕ, List, [], ◌∷◌, ◌++◌}
 use Rattle.reader.specs.declared.Event.{Event}
-use Rattle.reader.specs.declared.Event.TheVariants.{More, Pressed, Released, PauseStruck, Wrapping, Overrun, Unknown, BadState, BadSet}
+use Rattle.reader.specs.declared.Event.TheVariants.{More, Pressed, Released, PauseStruck, Wrapping, Overrun, Unknown}
 use Rattle.reader.specs.Reader.{read_byte}
 
 -- What a terminal makes of an event: it needs more, or passes wrapping over, or takes note.
@@ -13,8 +13,6 @@ noted PauseStruck = PauseStruck ∷ []
 noted Wrapping = []
 noted Overrun = Overrun ∷ []
 noted Unknown = Unknown ∷ []
-noted BadState = BadState ∷ []
-noted BadSet = BadSet ∷ []
 
 -- A run of bytes read: where the reader stands afterwards, and the events noted.
 pub record Run : Type 0 where

@@ -8,7 +8,7 @@ mod set3; // set3.rt: the bytes of set 3
 
 ghost use Rattle.std.specs.Prelude.{◌≡◌};
 ghost use Rattle.basics.specs.Said.{Answers};
-ghost use Rattle.reader.specs.Reader.{read_byte, answer_of, event_says, answer_says, answer_said, press_of};
+ghost use Rattle.reader.specs.Reader.{read_byte, answer_of, error_says, answer_says, answer_said, pressed_key, press_of};
 
 use keys::mark_of;
 use set1::read1;
@@ -17,7 +17,7 @@ use set3::read3;
 use steps::end;
 
 // What a byte tells.
-#[derive(Clone, Copy)]
+#[derive(Clone, Copy, PartialEq, Eq)]
 pub enum Event {
     // The sequence is not at its end.
     More,
@@ -33,10 +33,39 @@ pub enum Event {
     Overrun,
     // No code of this set.
     Unknown,
-    // Refused: no such state.
+}
+
+impl Event {
+    // The key that a press carries.
+    pub fn pressed_key(self) -> Option<u8>
+        ensures { result ≡ pressed_key self }
+    {
+        match self {
+            Event::Pressed(key) => Some(key),
+            _ => None,
+        }
+    }
+}
+
+// Why a byte is refused. The state in which it came is then the caller's still.
+#[derive(Clone, Copy, PartialEq, Eq)]
+pub enum ReadError {
+    // No such state.
     BadState,
-    // Refused: no such set.
+    // No such set.
     BadSet,
+}
+
+impl ReadError {
+    // Its number in the table of refusals (docs/RULES.md, section 9).
+    pub fn number(self) -> u8
+        ensures { result ≡ (error_says self).number }
+    {
+        match self {
+            ReadError::BadState => 9,
+            ReadError::BadSet => 7,
+        }
+    }
 }
 
 // The reader's answer: what the byte tells, and the state in which the next byte is to be read.
@@ -46,15 +75,15 @@ pub struct Answer {
     pub event: Event,
 }
 
-// A press taken out of an answer: the key, 0 for none, the next state, and the number of a refusal, 0 for none.
+// A press taken out of an answer: the key, if there was a press, and the next state.
 #[derive(Clone, Copy)]
 pub struct Press {
     pub state: u32,
-    pub key: u8,
-    pub refusal: u8,
+    pub key: Option<u8>,
 }
 
 // A byte in a state of a set.
+#[tactic(auto, unfolding(crate::specs::Reader::read_byte))]
 fn read_byte(set: u32, state: u32, byte: u8) -> Answer
     ensures { result ≡ read_byte set state byte }
 {
@@ -69,64 +98,26 @@ fn read_byte(set: u32, state: u32, byte: u8) -> Answer
 }
 
 // The reader: set 1 to 3, state 0 to 14 (0 to begin with, then what the answer before gave), and a byte.
-pub fn read(set: u32, state: u32, byte: u8) -> Answer
+#[tactic(auto, unfolding(crate::specs::Reader::answer_of, crate::specs::Reader::answer_said))]
+pub fn read(set: u32, state: u32, byte: u8) -> Result<Answer, ReadError>
     ensures { Answers answer_says result (answer_of set state byte) (answer_said set state byte) }
 {
     if 14 < state {
-        return Answer {
-            state,
-            event: Event::BadState,
-        };
+        return Err(ReadError::BadState);
     }
-    if set < 1 {
-        return Answer {
-            state,
-            event: Event::BadSet,
-        };
-    }
-    if 3 < set {
-        return Answer {
-            state,
-            event: Event::BadSet,
-        };
-    }
-    read_byte(set, state, byte)
-}
-
-// The number of a refusal, 0 for none.
-pub fn refusal_of(event: Event) -> u8
-    ensures { result ≡ (event_says event).number }
-{
-    match event {
-        Event::More => 0,
-        Event::Pressed(_) => 0,
-        Event::Released(_) => 0,
-        Event::PauseStruck => 0,
-        Event::Wrapping => 0,
-        Event::Overrun => 0,
-        Event::Unknown => 0,
-        Event::BadState => 9,
-        Event::BadSet => 7,
+    match set {
+        1..=3 => Ok(read_byte(set, state, byte)),
+        _ => Err(ReadError::BadSet),
     }
 }
 
 // For a caller that wants presses alone: the answer is taken apart at once, and anything else passed over.
-pub fn read_press(set: u32, state: u32, byte: u8) -> Press
+pub fn read_press(set: u32, state: u32, byte: u8) -> Result<Press, ReadError>
     ensures { result ≡ press_of (answer_of set state byte) }
 {
-    let answer = read(set, state, byte);
-    let next = answer.state;
-    let event = answer.event;
-    let Event::Pressed(key) = event else {
-        return Press {
-            state: next,
-            key: 0,
-            refusal: refusal_of(event),
-        };
-    };
-    Press {
-        state: next,
-        key,
-        refusal: 0,
-    }
+    let answer = read(set, state, byte)?;
+    Ok(Press {
+        state: answer.state,
+        key: answer.event.pressed_key(),
+    })
 }

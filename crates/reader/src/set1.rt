@@ -7,6 +7,7 @@ use crate::{Answer, Event};
 use lookup::{behind_e0_in_set1, in_set1};
 
 // What a code of one byte says.
+#[tactic(auto, unfolding(crate::specs::Reader::heard, keys::specs::Keys::code_in, keys::specs::Keys::row_of, keys::specs::Keys::rows))]
 fn plain(down: bool, byte: u8) -> Event
     ensures { result ≡ heard 1 down byte }
 {
@@ -17,6 +18,7 @@ fn plain(down: bool, byte: u8) -> Event
 }
 
 // What a byte behind E0 says.
+#[tactic(auto, unfolding(crate::specs::Reader::heard, keys::specs::Keys::code_in, keys::specs::Keys::row_of, keys::specs::Keys::rows))]
 fn extended(down: bool, byte: u8) -> Event
     ensures { result ≡ heard 1 down (0xe000 + byte) }
 {
@@ -29,6 +31,7 @@ fn extended(down: bool, byte: u8) -> Event
 }
 
 // The first byte of a sequence.
+#[tactic(auto, unfolding(crate::specs::Reader::in_set1))]
 fn first(byte: u8) -> Answer
     ensures { result ≡ in_set1 0 byte }
 {
@@ -40,6 +43,7 @@ fn first(byte: u8) -> Answer
 }
 
 // A byte in a state. Behind E1 stands nothing but PAUSE.
+#[tactic(auto, unfolding(crate::specs::Reader::in_set1))]
 pub fn read1(state: u32, byte: u8) -> Answer
     ensures { result ≡ in_set1 state byte }
 {

@@ -7,6 +7,7 @@ use crate::{Answer, Event};
 use lookup::in_set3;
 
 // The first byte of a sequence.
+#[tactic(auto, unfolding(crate::specs::Reader::in_set3))]
 fn first(byte: u8) -> Answer
     ensures { result ≡ in_set3 0 byte }
 {
@@ -17,6 +18,7 @@ fn first(byte: u8) -> Answer
 }
 
 // A byte in a state.
+#[tactic(auto, unfolding(crate::specs::Reader::in_set3))]
 pub fn read3(state: u32, byte: u8) -> Answer
     ensures { result ≡ in_set3 state byte }
 {

@@ -16,7 +16,7 @@ use Rattle.lookup.specs.Lookup.{key_with, first_with}
 use Rattle.codes.specs.declared.Form.TheVariants.{Plain, Other}
 use Rattle.codes.specs.Codes.{make_of, break_of, prefix, has_code, code_of, pause_bytes}
 use Rattle.reader.specs.declared.Event.{Event}
-use Rattle.reader.specs.declared.Event.TheVariants.{More, Pressed, Released, PauseStruck, Wrapping, Overrun, Unknown, BadState, BadSet}
+use Rattle.reader.specs.declared.Event.TheVariants.{More, Pressed, Released, PauseStruck, Wrapping, Overrun, Unknown}
 use Rattle.reader.specs.States.{beginnings, seen}
 use Rattle.reader.specs.Reader.{read_byte, in_set1, in_set2, in_set3, heard}
 use Rattle.roundtrip.specs.OwnCode.{GoesDown, ComesUp, StrikesPause}
@@ -41,8 +41,6 @@ right set bytes next PauseStruck = both (eqb next 0) (is_pause set bytes)
 right set bytes next Wrapping = eqb next 0
 right set bytes next Overrun = eqb next 0
 right set bytes next Unknown = eqb next 0
-right set bytes next BadState = false
-right set bytes next BadSet = false
 
 right_at : ℕ → ℕ → ℕ → Bool
 right_at set state byte =

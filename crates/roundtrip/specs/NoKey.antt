@@ -3,7 +3,7 @@ use Rattle.std.specs.Prelude.{ℕ, Bool, true, false, List, [], ◌∷◌, eqb}
 use Rattle.basics.specs.Choice.{pick, either}
 use Rattle.basics.specs.Lists.{same}
 use Rattle.reader.specs.declared.Event.{Event}
-use Rattle.reader.specs.declared.Event.TheVariants.{More, Pressed, Released, PauseStruck, Wrapping, Overrun, Unknown, BadState, BadSet}
+use Rattle.reader.specs.declared.Event.TheVariants.{More, Pressed, Released, PauseStruck, Wrapping, Overrun, Unknown}
 
 -- The mark: FF in set 1, 00 in sets 2 and 3.
 abbrev pub is_mark : ℕ → ℕ → Bool
@@ -32,8 +32,6 @@ is_overrun PauseStruck = false
 is_overrun Wrapping = false
 is_overrun Overrun = true
 is_overrun Unknown = false
-is_overrun BadState = false
-is_overrun BadSet = false
 
 abbrev pub is_wrapping : Event → Bool
 is_wrapping More = false
@@ -43,5 +41,3 @@ is_wrapping PauseStruck = false
 is_wrapping Wrapping = true
 is_wrapping Overrun = false
 is_wrapping Unknown = false
-is_wrapping BadState = false
-is_wrapping BadSet = false

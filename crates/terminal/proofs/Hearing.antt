@@ -5,7 +5,7 @@ use Prim.Native.Nat.{ℕ, ◌≤◌}
 use native.Mathlib.Nat.{not-suc-le-zero}
 use lib.ListN.{length, get_or, drop}
 use Rattle.reader.specs.declared.Event.{Event}
-use Rattle.reader.specs.declared.Event.TheVariants.{More, Pressed, Released, PauseStruck, Wrapping, Overrun, Unknown, BadState, BadSet}
+use Rattle.reader.specs.declared.Event.TheVariants.{More, Pressed, Released, PauseStruck, Wrapping, Overrun, Unknown}
 use Rattle.reader.specs.Reader.{read_byte}
 use Rattle.reader.specs.Reading.{noted, read_all}
 use Rattle.terminal.specs.Terminals.{Terminal, terminal, noticed, hears, hears_all}
@@ -37,8 +37,6 @@ noted_noticed PauseStruck events down = refl
 noted_noticed Wrapping events down = refl
 noted_noticed Overrun events down = refl
 noted_noticed Unknown events down = refl
-noted_noticed BadState events down = refl
-noted_noticed BadSet events down = refl
 
 -- So a terminal is the reader and what its events left.
 pub hears_events : (s state : ℕ) (down bytes : List ℕ)

@@ -1,7 +1,7 @@
 -- A terminal reads key bytes and keeps which keys are down (docs/RULES.md, sections 4 and 13). Assumes nothing.
 use Rattle.std.specs.Prelude.{ℕ, Bool, not, List, [], ◌∷◌, eqb, get_or, set, replicate}
 use Rattle.reader.specs.declared.Event.{Event}
-use Rattle.reader.specs.declared.Event.TheVariants.{More, Pressed, Released, PauseStruck, Wrapping, Overrun, Unknown, BadState, BadSet}
+use Rattle.reader.specs.declared.Event.TheVariants.{More, Pressed, Released, PauseStruck, Wrapping, Overrun, Unknown}
 use Rattle.reader.specs.Reader.{read_byte}
 
 -- The reader's state, and by key number 1 for a key that is down, else 0.
@@ -26,8 +26,6 @@ noticed PauseStruck down = down
 noticed Wrapping down = down
 noticed Overrun down = down
 noticed Unknown down = down
-noticed BadState down = down
-noticed BadSet down = down
 
 -- One key byte of a set.
 unfoldable pub hears : ℕ → Terminal → ℕ → Terminal

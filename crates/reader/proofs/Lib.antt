@@ -1,4 +1,0 @@
-pub mod Hearing
-pub mod Unreached
-pub mod Answering
-pub mod Presses
