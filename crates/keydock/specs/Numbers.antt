@@ -1,7 +1,6 @@
 -- Answers as one number, for C (include/keydock.h): 0 or more is an answer, and a refusal is minus its number in docs/RULES.md,
 -- section 9. Assumes nothing.
-use Rattle.std.specs.Prelude.{ℕ, ◌+◌, ◌*◌, eqb, ℤ, pos, get_or, Result, Ok, Err}
-use Rattle.basics.specs.Choice.{pick}
+use Rattle.std.specs.Prelude.{ℕ, ◌+◌, ◌*◌, ℤ, pos, get_or, unwrap_or, Result, Ok, Err}
 use Rattle.basics.specs.Said.{minus}
 use Rattle.frames.specs.declared.FrameError.{FrameError}
 use Rattle.frames.specs.declared.FrameError.TheVariants.{Broken, TooLarge}
@@ -10,6 +9,7 @@ use Rattle.encoder.specs.declared.Encoded.TheVariants.{Written, BadChoice, Short
 use Rattle.reader.specs.declared.Event.{Event}
 use Rattle.reader.specs.declared.Answer.{Answer}
 use Rattle.reader.specs.declared.Press.{Press}
+use Rattle.reader.specs.declared.ReadError.{ReadError}
 use Rattle.frames.specs.Frames as frames
 use Rattle.encoder.specs.Encoder as encoder
 use Rattle.reader.specs.Reader as reader
@@ -33,13 +33,12 @@ event_number event = get_or (reader.event_says event).values 0 0
 abbrev pub key_of : Event → ℕ
 key_of event = get_or (reader.event_says event).values 1 0
 
--- A byte read: event, key and next state in one number, unless it was refused.
-unfoldable pub answer_number : Answer → ℤ
-answer_number answer =
-    pick (eqb (reader.answer_says answer).number 0)
-    (pos (event_number answer.event + 256 * key_of answer.event + 65536 * answer.state))
-    (minus (reader.answer_says answer).number)
+-- A byte read: event, key and next state in one number, or minus the refusal.
+unfoldable pub answer_number : Result Answer ReadError → ℤ
+answer_number (Ok answer) = pos (event_number answer.event + 256 * key_of answer.event + 65536 * answer.state)
+answer_number (Err error) = minus (reader.error_says error).number
 
--- A press read: key and next state in one number, unless it was refused.
-unfoldable pub press_number : Press → ℤ
-press_number press = pick (eqb press.refusal 0) (pos (256 * press.key + 65536 * press.state)) (minus press.refusal)
+-- A press read: key, 0 for none, and next state in one number, or minus the refusal.
+unfoldable pub press_number : Result Press ReadError → ℤ
+press_number (Ok press) = pos (256 * unwrap_or press.key 0 + 65536 * press.state)
+press_number (Err error) = minus (reader.error_says error).number

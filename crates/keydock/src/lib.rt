@@ -5,12 +5,13 @@
 ghost use Rattle.std.specs.Prelude.{◌≡◌};
 ghost use Rattle.frames.specs.Frames.{packed_of, unpacked_of};
 ghost use Rattle.encoder.specs.Encoder.{encoded_of, output_of};
-ghost use Rattle.reader.specs.Reader.{answer_of, press_of};
+ghost use Rattle.reader.specs.Reader.{answer_of, error_says, press_of};
+ghost use Rattle.basics.specs.Said.{minus};
 ghost use Rattle.keydock.specs.Numbers.{unpacked_number, encoded_number, event_number, key_of, answer_number, press_number};
 
 use encoder::Encoded;
 use frames::FrameError;
-use reader::{Event, refusal_of};
+use reader::{Event, ReadError};
 
 // The frame of a byte.
 pub fn keydock_pack_frame(byte: u8) -> u16
@@ -20,11 +21,11 @@ pub fn keydock_pack_frame(byte: u8) -> u16
 }
 
 // The byte of a frame; -256 for a broken one, -5 for a number over 2047.
+#[tactic(auto, using(std::proofs::lemmas::Int::ints))]
 pub fn keydock_unpack_frame(frame: u32) -> i32
     ensures { result ≡ unpacked_number (unpacked_of frame) }
 {
-    let answer = frames::unpack(frame);
-    match answer {
+    match frames::unpack(frame) {
         Ok(byte) => i32::from(byte),
         Err(FrameError::Broken) => -256,
         Err(FrameError::TooLarge) => -5,
@@ -32,6 +33,7 @@ pub fn keydock_unpack_frame(frame: u32) -> i32
 }
 
 // A key's bytes into the lent output: how many; -7 for a choice out of its range, else -6 for an output under 8 bytes.
+#[tactic(auto, using(crate::proofs::Numbers::count_small, std::proofs::lemmas::Int::ints))]
 pub fn keydock_key_codes(
     set: u32,
     key: u32,
@@ -44,8 +46,7 @@ pub fn keydock_key_codes(
     ensures answer { result ≡ encoded_number (encoded_of set key event kind modifiers lock out.old) }
     ensures output { out.new ≡ output_of set key event kind modifiers lock out.old }
 {
-    let answer = encoder::encode(set, key, event, kind, modifiers, lock, out);
-    match answer {
+    match encoder::encode(set, key, event, kind, modifiers, lock, out) {
         Encoded::Written(count) => count as i32,
         Encoded::BadChoice => -7,
         Encoded::ShortOutput => -6,
@@ -64,8 +65,6 @@ fn event_number(event: Event) -> u32
         Event::Wrapping => 4,
         Event::Overrun => 5,
         Event::Unknown => 6,
-        Event::BadState => 0,
-        Event::BadSet => 0,
     }
 }
 
@@ -74,46 +73,42 @@ fn key_of(event: Event) -> u8
     ensures { result ≡ key_of event }
 {
     match event {
-        Event::More => 0,
-        Event::Pressed(key) => key,
-        Event::Released(key) => key,
-        Event::PauseStruck => 0,
-        Event::Wrapping => 0,
-        Event::Overrun => 0,
-        Event::Unknown => 0,
-        Event::BadState => 0,
-        Event::BadSet => 0,
+        Event::Pressed(key) | Event::Released(key) => key,
+        _ => 0,
     }
+}
+
+// A refusal of the reader's.
+fn refusal(error: ReadError) -> i32
+    ensures { result ≡ minus (error_says error).number }
+{
+    -i32::from(error.number())
 }
 
 // One key byte read: event + 256 * key + 65536 * next state; -9 for a state over 14, else -7 for a set that is not 1 to 3.
+#[tactic(auto, using(crate::proofs::Numbers::next_small, std::proofs::lemmas::Int::ints), unfolding(crate::specs::Numbers::answer_number))]
 pub fn keydock_read_byte(set: u32, state: u32, byte: u8) -> i32
     ensures { result ≡ answer_number (answer_of set state byte) }
 {
-    let answer = reader::read(set, state, byte);
-    let event = answer.event;
-    let refusal = refusal_of(event);
-    if refusal == 0 {
-        let key = key_of(event) as u32;
-        return (event_number(event) + 256 * key + 65536 * answer.state) as i32;
+    match reader::read(set, state, byte) {
+        Ok(answer) => {
+            let key = u32::from(key_of(answer.event));
+            (event_number(answer.event) + 256 * key + 65536 * answer.state) as i32
+        }
+        Err(error) => refusal(error),
     }
-    if refusal == 9 {
-        return -9;
-    }
-    -7
 }
 
 // The same for presses alone: 256 * key + 65536 * next state, or the same refusals.
+#[tactic(auto, using(crate::proofs::Numbers::next_small, std::proofs::lemmas::Int::ints), unfolding(crate::specs::Numbers::press_number))]
 pub fn keydock_read_press(set: u32, state: u32, byte: u8) -> i32
     ensures { result ≡ press_number (press_of (answer_of set state byte)) }
 {
-    let press = reader::read_press(set, state, byte);
-    if press.refusal == 0 {
-        let key = press.key as u32;
-        return (256 * key + 65536 * press.state) as i32;
+    match reader::read_press(set, state, byte) {
+        Ok(press) => {
+            let key = u32::from(press.key.unwrap_or(0));
+            (256 * key + 65536 * press.state) as i32
+        }
+        Err(error) => refusal(error),
     }
-    if press.refusal == 9 {
-        return -9;
-    }
-    -7
 }
