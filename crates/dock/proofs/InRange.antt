@@ -20,7 +20,7 @@ use Rattle.queue.specs.declared.Queue.{Queue}
 use Rattle.replies.specs.declared.Replies.{Replies}
 use Rattle.queue.proofs.Range.{popped_tidy}
 use Rattle.replies.proofs.ReplyMeaning.{popped_replies_tidy}
-use Rattle.record.specs.Views.{Keys, keys_of, contacts_of, with_queue, with_repeat}
+use Rattle.record.specs.Views.{keys_of, contacts_of, with_queue, with_repeat}
 use Rattle.record.specs.Parts.{with_keys, with_contacts, with_replies, with_map}
 use Rattle.record.specs.declared.Dock.{Dock}
 use Rattle.range.specs.Range.{in_range}
@@ -63,12 +63,12 @@ ticking_in_range : (d : Dock) → in_range d ≡ true → in_range (with_keys d 
 ticking_in_range d h = in_range_with_keys d h (ticked (keys_of d)) (ticked_good (keys_of d) (in_range_keys d h))
 
 -- On the way, as the code has it: with the ticked keys, and after the scan's changes.
-module _ (d : Dock) (h : in_range d ≡ true) (keys : Keys) (t : keys ≡ ticked (keys_of d)) where
-  pub ticked_in_range : in_range (with_keys d keys) ≡ true
-  ticked_in_range = rw t (ticking_in_range d h)
+module _ (d : Dock) (h : in_range d ≡ true) (next : Dock) where
+  pub ticked_leaves_range : next ≡ with_keys d (ticked (keys_of d)) → in_range next ≡ true
+  ticked_leaves_range e = rw e (ticking_in_range d h)
 
-  pub changed_leaves_range : (scan : List ℕ) (next : Dock) → next ≡ changed (with_keys d keys) scan → in_range next ≡ true
-  changed_leaves_range scan next e = rw e (changed_in_range (with_keys d keys) scan ticked_in_range)
+  pub changed_leaves_range : (scan : List ℕ) → next ≡ changed d scan → in_range next ≡ true
+  changed_leaves_range scan e = rw e (changed_in_range d scan h)
 
 heard_in_range : (d : Dock) (scan : List ℕ) → in_range d ≡ true → in_range (heard_scan d scan) ≡ true
 unfolding heard_scan
