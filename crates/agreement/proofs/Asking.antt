@@ -9,6 +9,7 @@ use lib.Dec.{eqb}
 use lib.ListN.{drop}
 use Rattle.basics.specs.Choice.{pick, both}
 use Rattle.basics.proofs.Flags.{both_false}
+use Rattle.std.specs.Prelude.{Some, Ok}
 use Rattle.dock.specs.declared.Given.TheVariants.{Reply}
 use Rattle.dock.specs.Calls.{Call, Frame, Read}
 use Rattle.dock.specs.Closing.{closing}
@@ -42,8 +43,8 @@ read_once w = next ours w Read
 
 -- The answer to the question, asked in a world.
 pub record Told (w : World) : Type 0 where
-  pub first : (read_of (asked w).dock).given ≡ Reply 0xfa
-  pub second : (read_of (read_once (asked w)).dock).given ≡ Reply w.onlooker.set
+  pub first : (read_of (asked w).dock).given ≡ Ok (Some (Reply 0xfa))
+  pub second : (read_of (read_once (asked w)).dock).given ≡ Ok (Some (Reply w.onlooker.set))
   pub kept : (asked w).dock.rest.mode.set ≡ w.onlooker.set
   pub ended : (asked w).dock.rest.waiting ≡ 0
 
@@ -108,9 +109,9 @@ module _ (w : World) (s : Steady w) where
       let queue = waiting (asked w).dock.rest.outgoing.queue in
       let then = waiting (read_once (asked w)).dock.rest.outgoing.queue in
       record {
-        first = read_gives (asked w) asked_steady ∙ ap (λ (l : List ℕ). foremost l queue) replies;
+        first = read_gives (asked w) asked_steady ∙ ap (λ (l : List ℕ). Ok (foremost l queue)) replies;
         second = read_gives (read_once (asked w)) later
-            ∙ ap (λ (l : List ℕ). foremost l then) (read_leaves (asked w) asked_steady ∙ ap (λ (l : List ℕ). drop 1 l) replies);
+            ∙ ap (λ (l : List ℕ). Ok (foremost l then)) (read_leaves (asked w) asked_steady ∙ ap (λ (l : List ℕ). drop 1 l) replies);
         kept = asked_steady.sound.knows.3 ∙ still;
         ended = asked_steady.sound.knows.2 ∙ over;
       }

@@ -11,7 +11,7 @@ use lib.ListN.{length, replicate, drop, length-drop}
 use Rattle.basics.proofs.Cases.{by_cases, picked, never}
 use Rattle.basics.proofs.Flags.{left_of_both, right_of_both}
 use Rattle.keys.specs.Keys.{last_key}
-use Rattle.dock.specs.declared.Taken.{Taken}
+use Rattle.dock.specs.Answers.{Taken}
 use Rattle.dock.specs.Closing.{with_handed, closing}
 use Rattle.dock.specs.Scan.{quiet}
 use Rattle.dock.specs.Read.{oldest, without_oldest, oldest_reply, replies_behind, remembering, reply_taken, key_byte_taken, read, read_of}

@@ -11,9 +11,7 @@ use lib.ListN.{length, get_or, drop}
 use Rattle.std.specs.Prelude.{Result, Ok, Err}
 use Rattle.basics.specs.Choice.{pick, either}
 use Rattle.basics.proofs.Flags.{left_of_both, right_of_both}
-use Rattle.dock.specs.declared.Answered.{Answered}
-use Rattle.dock.specs.declared.Taken.{Taken}
-use Rattle.dock.specs.Answers.{is_accepted}
+use Rattle.dock.specs.Answers.{Answered, Taken, is_accepted}
 use Rattle.dock.specs.Swap.{opened, remapped, swapped, swap_of}
 use Rattle.dock.specs.Frame.{took_frame, frame_of}
 use Rattle.dock.specs.Read.{oldest, without_oldest, oldest_reply, replies_behind, remembering, reply_taken, key_byte_taken, read_of}
@@ -53,7 +51,7 @@ module _ (d : Dock) where
   swap_bytes map =
       let then = remapped d map in
       by_swap (λ (a : Answered). bytes_of a.dock ≡ bytes_of d ++ pick (is_accepted a.answer) (closing_bytes then) []) d
-      (λ answer refused. rw refused (sym (append-nil (bytes_of d)))) map
+      (λ refusal. sym (append-nil (bytes_of d))) map
       (λ long good. closing_bytes_lem then ∙ ap (λ (l : List ℕ). l ++ closing_bytes then) (remapped_bytes map))
 
   -- Nor does a byte from the host, unless it clears the queue.

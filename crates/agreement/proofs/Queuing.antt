@@ -12,7 +12,8 @@ use Rattle.keys.specs.Keys.{last_key}
 use Rattle.codes.specs.Codes.{may_repeat}
 use Rattle.phantom.specs.Phantom.{is_phantom}
 use Rattle.contacts.specs.Counts.{counted_of}
-use Rattle.dock.specs.declared.Answer.TheVariants.{Accepted, ScanLength}
+use Rattle.std.specs.Prelude.{Ok, Err}
+use Rattle.dock.specs.declared.Refusal.TheVariants.{ScanLength}
 use Rattle.dock.specs.Answers.{is_accepted, answered}
 use Rattle.dock.specs.Closing.{closing}
 use Rattle.dock.specs.Scan.{listening, is_counted, counting, changed, quiet, repeating, heard_scan, scanned, scan_of}
@@ -107,8 +108,8 @@ module _ (d : Dock) (scan : List ℕ) where
   scan_bytes_lem range = rw range (go (eqb (length scan) 18))
     where
       go : (whole : Bool) → both whole (scan_overruns d scan) ≡ false
-          → bytes_of (pick whole (answered Accepted (scanned d scan)) (answered ScanLength d)).dock
+          → bytes_of (pick whole (answered (Ok tt) (scanned d scan)) (answered (Err ScanLength) d)).dock
           ≡ bytes_of d
-          ++ pick (is_accepted (pick whole (answered Accepted (scanned d scan)) (answered ScanLength d)).answer) (scan_bytes d scan) []
+          ++ pick (is_accepted (pick whole (answered (Ok tt) (scanned d scan)) (answered (Err ScanLength) d)).answer) (scan_bytes d scan) []
       go true room = scanned_bytes room
       go false room = sym (append-nil (bytes_of d))

@@ -12,7 +12,8 @@ use Rattle.basics.proofs.Cases.{never}
 use Rattle.contacts.specs.Counts.{Contacts, unseen, counted_of}
 use Rattle.phantom.specs.Phantom.{is_phantom}
 use Rattle.dock.specs.Answers.{answered}
-use Rattle.dock.specs.declared.Answer.TheVariants.{Accepted, ScanLength}
+use Rattle.std.specs.Prelude.{Ok, Err}
+use Rattle.dock.specs.declared.Refusal.TheVariants.{ScanLength}
 use Rattle.dock.specs.Closing.{closing}
 use Rattle.dock.specs.Scan.{listening, is_counted, counting, changed, quiet, repeating, heard_scan, scanned, scan_of}
 use Rattle.history.proofs.Counters.{counted_again}
@@ -113,7 +114,7 @@ unfolding scan_of
 scan_settled d scans scan range s = rw range (go (eqb (length scan) 18))
   where
     go : (whole : Bool)
-        → Settled (pick whole (answered Accepted (scanned d scan)) (answered ScanLength d)).dock
+        → Settled (pick whole (answered (Ok tt) (scanned d scan)) (answered (Err ScanLength) d)).dock
         (pick (both whole (is_counted d scan)) (scans ++ (scan ∷ [])) scans)
     go true = scanned_settled d scans scan s
     go false = s
@@ -178,6 +179,6 @@ module _ (t : Terminal) where
     scan_follows range = rw range (go (eqb (length scan) 18))
       where
         go : (whole : Bool) → both whole (scan_overruns d scan) ≡ false
-            → Follows (pick whole (answered Accepted (scanned d scan)) (answered ScanLength d)).dock t
+            → Follows (pick whole (answered (Ok tt) (scanned d scan)) (answered (Err ScanLength) d)).dock t
         go true room = scanned_follows room
         go false room = f

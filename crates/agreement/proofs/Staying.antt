@@ -9,7 +9,8 @@ use lib.ListN.{length}
 use Rattle.basics.specs.Choice.{pick, both}
 use Rattle.basics.specs.Lists.{all_up_to}
 use Rattle.basics.proofs.Cases.{picked}
-use Rattle.dock.specs.declared.Answer.TheVariants.{Accepted, MapLength, MapEntry, MapDouble}
+use Rattle.std.specs.Prelude.{Ok, Err}
+use Rattle.dock.specs.declared.Refusal.TheVariants.{MapLength, MapEntry, MapDouble}
 use Rattle.dock.specs.Answers.{answered}
 use Rattle.dock.specs.Closing.{closing, with_handed}
 use Rattle.dock.specs.Read.{remembering, read_of}
@@ -65,7 +66,7 @@ swap_stays d map range = rw range (go (eqb (length map) 144) (all_up_to last_key
 
     go : (long entries double : Bool)
         → Stays (pick (both long (both entries (not double))) map d.map) d
-        (pick long (pick entries (pick double (answered MapDouble d) (answered Accepted (swapped d map))) (answered MapEntry d)) (answered MapLength d)).dock
+        (pick long (pick entries (pick double (answered (Err MapDouble) d) (answered (Ok tt) (swapped d map))) (answered (Err MapEntry) d)) (answered (Err MapLength) d)).dock
     go false entries double = same
     go true false double = same
     go true true true = same

@@ -11,7 +11,8 @@ use Rattle.basics.specs.Choice.{pick, both}
 use Rattle.basics.specs.Lists.{all_up_to}
 use Rattle.keys.specs.Keys.{last_key}
 use Rattle.contacts.specs.Counts.{unseen}
-use Rattle.dock.specs.declared.Answer.TheVariants.{Accepted, MapLength, MapEntry, MapDouble}
+use Rattle.std.specs.Prelude.{Ok, Err}
+use Rattle.dock.specs.declared.Refusal.TheVariants.{MapLength, MapEntry, MapDouble}
 use Rattle.dock.specs.Answers.{answered}
 use Rattle.dock.specs.Swap.{opened, remapped, swapped, swap_of}
 use Rattle.history.specs.Scans.{counted_all}
@@ -64,7 +65,7 @@ module _ (d : Dock) (scans : List (List ℕ)) (s : Settled d scans) (map : List 
     where
       go : (long : Bool) → eqb (length map) 144 ≡ long → (entries : Bool) → all_up_to last_key map ≡ entries → (double : Bool) → has_double map ≡ double
           → Settled
-          (pick long (pick entries (pick double (answered MapDouble d) (answered Accepted (swapped d map))) (answered MapEntry d)) (answered MapLength d)).dock
+          (pick long (pick entries (pick double (answered (Err MapDouble) d) (answered (Ok tt) (swapped d map))) (answered (Err MapEntry) d)) (answered (Err MapLength) d)).dock
           (pick (both long (both entries (not double))) [] scans)
       go true l true e false h = closing_settled (remapped d map) [] (remapped_ready (eqb-true (length map) 144 l) e h)
       go true l true e true h = s

@@ -6,11 +6,10 @@ use Prim.Native.Nat.{ℕ, ◌≤◌}
 use native.Mathlib.Omega.{arith}
 use borrow.Author.Tests.{eqb-false}
 use lib.Dec.{eqb}
+use Rattle.std.specs.Prelude.{None, Ok}
 use Rattle.basics.specs.Choice.{pick, both}
 use lib.ListN.{length, length-take}
-use Rattle.dock.specs.declared.Taken.{Taken}
-use Rattle.dock.specs.declared.Given.TheVariants.{Nothing}
-use Rattle.dock.specs.Answers.{taken}
+use Rattle.dock.specs.Answers.{Taken, taken}
 use Rattle.dock.specs.Closing.{closing}
 use Rattle.dock.specs.Scan.{quiet}
 use Rattle.dock.specs.Read.{oldest, without_oldest, remembering, reply_taken, key_byte_taken, read, read_of}
@@ -68,7 +67,7 @@ unfolding read_of read reply_taken key_byte_taken
 nothing_is_quiet d range = rw range (go (eqb d.rest.replies.length 0) (eqb d.rest.outgoing.queue.length 0))
   where
     go : (silent empty : Bool)
-        → is_nothing (pick silent (pick empty (taken Nothing (closing d)) (key_byte_taken d)) (reply_taken d)).given ≡ both silent empty
+        → is_nothing (pick silent (pick empty (taken (Ok None) (closing d)) (key_byte_taken d)) (reply_taken d)).given ≡ both silent empty
     go true true = refl
     go true false = refl
     go false empty = refl

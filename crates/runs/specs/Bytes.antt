@@ -1,6 +1,6 @@
 -- The key bytes of a call and of a run: what goes into the queue, and what is given out of it (docs/RULES.md, sections 6 to 8).
 -- Assumes nothing.
-use Rattle.std.specs.Prelude.{ℕ, Bool, List, [], ◌∷◌, ◌++◌, get_or, Result, Ok, Err}
+use Rattle.std.specs.Prelude.{ℕ, Bool, List, [], ◌∷◌, ◌++◌, get_or, Option, Some, None, Result, Ok, Err}
 use Rattle.basics.specs.Choice.{pick}
 use Rattle.keys.specs.Keys.{last_key}
 use Rattle.codes.specs.declared.Action.TheVariants.{Repeat}
@@ -8,7 +8,8 @@ use Rattle.codes.specs.Codes.{may_repeat}
 use Rattle.phantom.specs.Phantom.{is_phantom}
 use Rattle.contacts.specs.Counts.{counted_of}
 use Rattle.dock.specs.declared.Given.{Given}
-use Rattle.dock.specs.declared.Given.TheVariants.{Nothing, Reply, KeyByte, Refused}
+use Rattle.dock.specs.declared.Given.TheVariants.{Reply, KeyByte}
+use Rattle.dock.specs.declared.Refusal.{Refusal}
 use Rattle.dock.specs.Answers.{is_accepted}
 use Rattle.dock.specs.Scan.{listening, changed, quiet, scan_of}
 use Rattle.dock.specs.Swap.{remapped, swap_of}
@@ -65,11 +66,11 @@ frame_bytes (Err Broken) d = closing_bytes d
 frame_bytes (Err TooLarge) d = []
 
 -- What a read puts into it, by what it gives: the end of the call, once a key byte has left the queue.
-abbrev pub read_bytes : Given → Dock → List ℕ
-read_bytes Nothing d = closing_bytes d
-read_bytes (Reply byte) d = closing_bytes d
-read_bytes (KeyByte byte) d = closing_bytes (with_keys d (with_queue (keys_of d) (without_oldest d.rest.outgoing.queue)))
-read_bytes Refused d = []
+abbrev pub read_bytes : Result (Option Given) Refusal → Dock → List ℕ
+read_bytes (Ok None) d = closing_bytes d
+read_bytes (Ok (Some (Reply byte))) d = closing_bytes d
+read_bytes (Ok (Some (KeyByte byte))) d = closing_bytes (with_keys d (with_queue (keys_of d) (without_oldest d.rest.outgoing.queue)))
+read_bytes (Err refusal) d = []
 
 -- What a call puts into the queue; a call that is not accepted puts nothing.
 abbrev pub queued_by : Dock → Call → List ℕ
@@ -79,11 +80,11 @@ queued_by d (Frame number) = pick (is_accepted (frame_of d number).answer) (fram
 queued_by d Read = read_bytes (read_of d).given d
 
 -- The key byte among what a read gives.
-abbrev pub key_bytes_of : Given → List ℕ
-key_bytes_of Nothing = []
-key_bytes_of (Reply byte) = []
-key_bytes_of (KeyByte byte) = byte ∷ []
-key_bytes_of Refused = []
+abbrev pub key_bytes_of : Result (Option Given) Refusal → List ℕ
+key_bytes_of (Ok None) = []
+key_bytes_of (Ok (Some (Reply byte))) = []
+key_bytes_of (Ok (Some (KeyByte byte))) = byte ∷ []
+key_bytes_of (Err refusal) = []
 
 -- The key byte that a call gives; only a read gives one.
 abbrev pub given_by : Dock → Call → List ℕ
@@ -103,7 +104,7 @@ given_in w [] = []
 given_in w (call ∷ calls) = given_by w.dock call ++ given_in (next ours w call) calls
 
 -- What a read should give where these replies and these key bytes wait: the oldest reply, else the oldest key byte, else nothing.
-abbrev pub foremost : List ℕ → List ℕ → Given
-foremost (reply ∷ replies) bytes = Reply reply
-foremost [] (byte ∷ bytes) = KeyByte byte
-foremost [] [] = Nothing
+abbrev pub foremost : List ℕ → List ℕ → Option Given
+foremost (reply ∷ replies) bytes = Some (Reply reply)
+foremost [] (byte ∷ bytes) = Some (KeyByte byte)
+foremost [] [] = None

@@ -1,11 +1,11 @@
 -- Any dock, as its calls: of these demand 3 can be said, of ours and of wrong ones (docs/RULES.md, section 13).
 -- Assumes nothing. An edit of must-fail/ puts what it imports in the place of these two lines.
-use Rattle.std.specs.Prelude.{ℕ, zero, suc, ◌+◌, Bool, true, false, not, List, eqb, ltb, length, get_or}
+use Rattle.std.specs.Prelude.{ℕ, zero, suc, ◌+◌, Bool, true, false, not, List, eqb, ltb, length, get_or, Option, Some, None, Result, Ok, Err}
 use Rattle.basics.specs.Choice.{pick, both}
 use Rattle.codes.specs.declared.Action.TheVariants.{Release}
 use Rattle.dock.specs.declared.Given.{Given}
-use Rattle.dock.specs.declared.Given.TheVariants.{Nothing, Reply, KeyByte, Refused}
-use Rattle.dock.specs.declared.Taken.{Taken}
+use Rattle.dock.specs.declared.Refusal.{Refusal}
+use Rattle.dock.specs.Answers.{Taken}
 use Rattle.dock.specs.Scan.{scan_of}
 use Rattle.dock.specs.Swap.{swap_of}
 use Rattle.dock.specs.Frame.{frame_of}
@@ -38,11 +38,10 @@ ours =
     }
 
 -- A read gave nothing.
-abbrev pub is_nothing : Given → Bool
-is_nothing Nothing = true
-is_nothing (Reply byte) = false
-is_nothing (KeyByte byte) = false
-is_nothing Refused = false
+abbrev pub is_nothing : Result (Option Given) Refusal → Bool
+is_nothing (Ok None) = true
+is_nothing (Ok (Some given)) = false
+is_nothing (Err refusal) = false
 
 -- Nothing waits: a read would give nothing.
 abbrev pub nothing_waits : Machine → Dock → Bool

@@ -1,12 +1,12 @@
 -- Transcripts of calls (docs/RULES.md): what reads give on the way.
 -- Assumes nothing. Edits of must-fail/ put what they import in the place of these two lines.
-use Rattle.std.specs.Prelude.{ℕ, Bool, true, List, [], ◌∷◌, ◌++◌}
+use Rattle.std.specs.Prelude.{ℕ, Bool, true, List, [], ◌∷◌, ◌++◌, Option, Some, None, Result, Ok, Err}
 use Rattle.basics.specs.Choice.{both}
 use Rattle.basics.specs.Lists.{same}
 use Rattle.dock.specs.declared.Given.{Given}
-use Rattle.dock.specs.declared.Given.TheVariants.{Nothing, Reply, KeyByte, Refused}
-use Rattle.dock.specs.declared.Taken.{Taken}
-use Rattle.dock.specs.Answers.{taken}
+use Rattle.dock.specs.declared.Given.TheVariants.{Reply, KeyByte}
+use Rattle.dock.specs.declared.Refusal.{Refusal}
+use Rattle.dock.specs.Answers.{Taken, taken}
 use Rattle.dock.specs.Scan.{scan_of}
 use Rattle.dock.specs.Swap.{swap_of}
 use Rattle.dock.specs.Frame.{frame_of}
@@ -17,9 +17,9 @@ use Rattle.dock.specs.Calls.{Call, Scan, Swap, Frame, Read}
 
 -- One call: what it gives, and the dock after it. Only a read gives something.
 abbrev pub called : Dock → Call → Taken
-called d (Scan scan) = taken Nothing (scan_of d scan).dock
-called d (Swap map) = taken Nothing (swap_of d map).dock
-called d (Frame number) = taken Nothing (frame_of d number).dock
+called d (Scan scan) = taken (Ok None) (scan_of d scan).dock
+called d (Swap map) = taken (Ok None) (swap_of d map).dock
+called d (Frame number) = taken (Ok None) (frame_of d number).dock
 called d Read = read_of d
 
 -- The dock after some calls.
@@ -28,16 +28,16 @@ reached d [] = d
 reached d (call ∷ calls) = reached (called d call).dock calls
 
 -- What the calls give, of one kind.
-unfoldable pub gives : (Given → List ℕ) → Dock → List Call → List ℕ
+unfoldable pub gives : (Result (Option Given) Refusal → List ℕ) → Dock → List Call → List ℕ
 gives of-kind d [] = []
 gives of-kind d (call ∷ calls) = let t = called d call in of-kind t.given ++ gives of-kind t.dock calls
 
 -- The reply among what a read gives.
-abbrev pub reply_of : Given → List ℕ
-reply_of Nothing = []
-reply_of (Reply byte) = byte ∷ []
-reply_of (KeyByte byte) = []
-reply_of Refused = []
+abbrev pub reply_of : Result (Option Given) Refusal → List ℕ
+reply_of (Ok None) = []
+reply_of (Ok (Some (Reply byte))) = byte ∷ []
+reply_of (Ok (Some (KeyByte byte))) = []
+reply_of (Err refusal) = []
 
 -- Calls that lead up to something, calls after them, and what these are to give.
 pub record Transcript : Type 0 where
@@ -50,6 +50,6 @@ abbrev pub transcript : List Call → List Call → List ℕ → Transcript
 transcript earlier calls given = record { earlier = earlier; calls = calls; given = given }
 
 -- All of these transcripts come out: from power-on the calls give, of one kind, what they are to give.
-unfoldable pub come_out : (Given → List ℕ) → List Transcript → Bool
+unfoldable pub come_out : (Result (Option Given) Refusal → List ℕ) → List Transcript → Bool
 come_out of-kind [] = true
 come_out of-kind (t ∷ ts) = both (same (gives of-kind (reached power_on t.earlier) t.calls) t.given) (come_out of-kind ts)

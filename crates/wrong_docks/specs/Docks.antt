@@ -1,6 +1,6 @@
 -- Docks that differ from ours in one rule (docs/RULES.md). Assumes nothing.
 use Rattle.std.specs.Prelude.{ℕ, List}
-use Rattle.dock.specs.declared.Taken.{Taken}
+use Rattle.dock.specs.Answers.{Taken}
 use Rattle.dock.specs.Scan.{scan_of}
 use Rattle.dock.specs.Swap.{swap_of, swapped}
 use Rattle.dock.specs.Frame.{frame_of}
