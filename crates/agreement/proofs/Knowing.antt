@@ -22,8 +22,9 @@ use Rattle.dock.specs.Swap.{swap_of}
 use Rattle.frames.specs.declared.FrameError.{FrameError}
 use Rattle.frames.specs.declared.FrameError.TheVariants.{Broken, TooLarge}
 use Rattle.frames.specs.Frames.{unpacked_of}
+use Rattle.std.specs.Prelude.{Option, Some, None}
 use Rattle.host.specs.declared.values.Asked.{Asked}
-use Rattle.host.specs.declared.values.Asked.TheVariants.{Indicators, Set, WhichSet, Rate, KeyType, Wrong}
+use Rattle.host.specs.declared.values.Asked.TheVariants.{Indicators, Set, WhichSet, Rate, KeyType}
 use Rattle.host.specs.Values.{asked_of, is_right, valued, took_value, took_byte}
 use Rattle.host.proofs.Ladder.{by_value, by_byte}
 use Rattle.keying.specs.Handover.{handed_over}
@@ -94,17 +95,17 @@ module _ (d : Dock) (byte : ℕ) where
   took_waiting =
       rw (waits_same byte, right_same d.rest.waiting byte) (go (eqb byte 0xfe) (leb 0xed byte) (asked_of d.rest.waiting byte))
     where
-      go : (again command : Bool) (asked : Asked)
+      go : (again command : Bool) (asked : Option Asked)
           → (pick again (replying (d.rest.given ∷ []) d) (pick command (commanded byte d) (valued asked d))).rest.waiting
           ≡ pick again d.rest.waiting (pick command (pick (takes_value byte) byte 0) (pick (is_right asked) 0 d.rest.waiting))
       go true command asked = refl
       go false true asked = refl
-      go false false (Indicators indicators) = refl
-      go false false (Set set) = refl
-      go false false WhichSet = refl
-      go false false (Rate rate) = refl
-      go false false (KeyType key type) = refl
-      go false false Wrong = refl
+      go false false (Some (Indicators indicators)) = refl
+      go false false (Some (Set set)) = refl
+      go false false (Some WhichSet) = refl
+      go false false (Some (Rate rate)) = refl
+      go false false (Some (KeyType key type)) = refl
+      go false false None = refl
 
   took_map : (took_byte byte d).map ≡ d.map
   unfolding commanded fresh_with
@@ -138,14 +139,14 @@ module _ (d : Dock) (byte : ℕ) where
   value_chosen low =
       rw (low_chosen byte low, sets_same byte) (go d.rest.waiting (eqb d.rest.waiting 0xf0) refl)
     where
-      Same : Asked → Type 0
+      Same : Option Asked → Type 0
       Same asked = (valued asked d).rest.mode.set ≡ d.rest.mode.set
 
       go : (command : ℕ) (choosing : Bool) → eqb command 0xf0 ≡ choosing
           → (valued (asked_of command byte) d).rest.mode.set ≡ pick (both choosing (between 1 3 byte)) byte d.rest.mode.set
       go command true e =
           rw (eqb-true command 0xf0 e)
-          (two_by_cases (λ (asked : Asked) (set : ℕ). (valued asked d).rest.mode.set ≡ set) (between 1 3 byte) _ _ _ _
+          (two_by_cases (λ (asked : Option Asked) (set : ℕ). (valued asked d).rest.mode.set ≡ set) (between 1 3 byte) _ _ _ _
           (λ chosen. refl) (λ none. picked Same (eqb byte 0) _ _ refl refl))
       go command false e =
           picked Same (eqb command 0xed) _ _ (picked Same (leb byte 7) _ _ refl refl)

@@ -16,8 +16,9 @@ use lib.ListN.{take, drop}
 use Rattle.basics.specs.Choice.{pick, both, either, between}
 use Rattle.basics.proofs.Cases.{two_by_cases}
 use Rattle.basics.proofs.Tables.{values_below, alike_below, both_left, both_right}
+use Rattle.std.specs.Prelude.{Option, Some, None}
 use Rattle.host.specs.declared.values.Asked.{Asked}
-use Rattle.host.specs.declared.values.Asked.TheVariants.{Indicators, Set, WhichSet, Rate, KeyType, Wrong}
+use Rattle.host.specs.declared.values.Asked.TheVariants.{Indicators, Set, WhichSet, Rate, KeyType}
 use Rattle.host.specs.Values.{asked_of, is_right}
 use Rattle.keys.specs.Keys.{Row, rows}
 use Rattle.lookup.specs.Lookup.{first_with, key_with}
@@ -162,31 +163,31 @@ sets_same value = among_numbers value 2 1
 pub right_same : (command value : ℕ) → one_of value (values_for command) ≡ is_right (asked_of command value)
 unfolding values_for asked_of one_of
 right_same command value =
-    let Right : List ℕ → Asked → Type 0 = λ (l : List ℕ) (asked : Asked). one_of value l ≡ is_right asked in
-    two_by_cases Right (eqb command 0xed) _ _ _ _ (λ h. up_to 7 ∙ sym (right_if (leb value 7) (Indicators value) refl))
+    let Right : List ℕ → Option Asked → Type 0 = λ (l : List ℕ) (asked : Option Asked). one_of value l ≡ is_right asked in
+    two_by_cases Right (eqb command 0xed) _ _ _ _ (λ h. up_to 7 ∙ sym (right_if (leb value 7) (Indicators value)))
     (λ h. two_by_cases Right (eqb command 0xf0) _ _ _ _ (λ h. a_set)
-    (λ h. two_by_cases Right (eqb command 0xf3) _ _ _ _ (λ h. up_to 127 ∙ sym (right_if (leb value 127) (Rate value) refl))
+    (λ h. two_by_cases Right (eqb command 0xf3) _ _ _ _ (λ h. up_to 127 ∙ sym (right_if (leb value 127) (Rate value)))
     (λ h. rw (among_numbers command 2 0xfb) (two_by_cases Right (between 0xfb 0xfd command) _ _ _ _ (λ h. a_code) (λ h. among_none value)))))
   where
     up_to : (n : ℕ) → one_of value (numbers_from 0 (suc n)) ≡ leb value n
     up_to n = among_numbers value n 0 ∙ rw (le-leb 0 value (omega arith), zero-add n)
 
-    right_if : (b : Bool) (asked : Asked) → is_right asked ≡ true → is_right (pick b asked Wrong) ≡ b
-    right_if true asked e = e
-    right_if false asked e = refl
+    right_if : (b : Bool) (asked : Asked) → is_right (pick b (Some asked) None) ≡ b
+    right_if true asked = refl
+    right_if false asked = refl
 
-    a_set : one_of value (0 ∷ sets) ≡ is_right (pick (between 1 3 value) (Set value) (pick (eqb value 0) WhichSet Wrong))
+    a_set : one_of value (0 ∷ sets) ≡ is_right (pick (between 1 3 value) (Some (Set value)) (pick (eqb value 0) (Some WhichSet) None))
     a_set = rw (sets_same value) (go (eqb value 0) (between 1 3 value))
       where
-        go : (zero one : Bool) → either zero one ≡ is_right (pick one (Set value) (pick zero WhichSet Wrong))
+        go : (zero one : Bool) → either zero one ≡ is_right (pick one (Some (Set value)) (pick zero (Some WhichSet) None))
         go true true = refl
         go true false = refl
         go false true = refl
         go false false = refl
 
-    a_code : one_of value set_three_codes ≡ is_right (pick (eqb (key_with 3 value) 0) Wrong (KeyType (key_with 3 value) (command - 0xfb)))
+    a_code : one_of value set_three_codes ≡ is_right (pick (eqb (key_with 3 value) 0) None (Some (KeyType (key_with 3 value) (command - 0xfb))))
     a_code = three_same value ∙ go (eqb (key_with 3 value) 0)
       where
-        go : (none : Bool) → not none ≡ is_right (pick none Wrong (KeyType (key_with 3 value) (command - 0xfb)))
+        go : (none : Bool) → not none ≡ is_right (pick none None (Some (KeyType (key_with 3 value) (command - 0xfb))))
         go true = refl
         go false = refl

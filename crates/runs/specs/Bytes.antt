@@ -67,9 +67,8 @@ frame_bytes (Err TooLarge) d = []
 
 -- What a read puts into it, by what it gives: the end of the call, once a key byte has left the queue.
 abbrev pub read_bytes : Result (Option Given) Refusal → Dock → List ℕ
-read_bytes (Ok None) d = closing_bytes d
-read_bytes (Ok (Some (Reply byte))) d = closing_bytes d
 read_bytes (Ok (Some (KeyByte byte))) d = closing_bytes (with_keys d (with_queue (keys_of d) (without_oldest d.rest.outgoing.queue)))
+read_bytes (Ok other) d = closing_bytes d
 read_bytes (Err refusal) d = []
 
 -- What a call puts into the queue; a call that is not accepted puts nothing.
@@ -81,10 +80,8 @@ queued_by d Read = read_bytes (read_of d).given d
 
 -- The key byte among what a read gives.
 abbrev pub key_bytes_of : Result (Option Given) Refusal → List ℕ
-key_bytes_of (Ok None) = []
-key_bytes_of (Ok (Some (Reply byte))) = []
 key_bytes_of (Ok (Some (KeyByte byte))) = byte ∷ []
-key_bytes_of (Err refusal) = []
+key_bytes_of other = []
 
 -- The key byte that a call gives; only a read gives one.
 abbrev pub given_by : Dock → Call → List ℕ

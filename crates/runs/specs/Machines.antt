@@ -1,6 +1,6 @@
 -- Any dock, as its calls: of these demand 3 can be said, of ours and of wrong ones (docs/RULES.md, section 13).
 -- Assumes nothing. An edit of must-fail/ puts what it imports in the place of these two lines.
-use Rattle.std.specs.Prelude.{ℕ, zero, suc, ◌+◌, Bool, true, false, not, List, eqb, ltb, length, get_or, Option, Some, None, Result, Ok, Err}
+use Rattle.std.specs.Prelude.{ℕ, zero, suc, ◌+◌, Bool, true, false, not, List, eqb, ltb, length, get_or, Option, None, Result, Ok}
 use Rattle.basics.specs.Choice.{pick, both}
 use Rattle.codes.specs.declared.Action.TheVariants.{Release}
 use Rattle.dock.specs.declared.Given.{Given}
@@ -40,8 +40,7 @@ ours =
 -- A read gave nothing.
 abbrev pub is_nothing : Result (Option Given) Refusal → Bool
 is_nothing (Ok None) = true
-is_nothing (Ok (Some given)) = false
-is_nothing (Err refusal) = false
+is_nothing other = false
 
 -- Nothing waits: a read would give nothing.
 abbrev pub nothing_waits : Machine → Dock → Bool

@@ -1,7 +1,7 @@
 -- A dock, an onlooker, and a terminal that reads the dock's key bytes (docs/RULES.md, section 13). Assumes nothing.
-use Rattle.std.specs.Prelude.{ℕ, Bool, List, [], ◌∷◌, Option, Some, None, Result, Ok, Err}
+use Rattle.std.specs.Prelude.{ℕ, Bool, List, [], ◌∷◌, Option, Some, Result, Ok}
 use Rattle.dock.specs.declared.Given.{Given}
-use Rattle.dock.specs.declared.Given.TheVariants.{Reply, KeyByte}
+use Rattle.dock.specs.declared.Given.TheVariants.{KeyByte}
 use Rattle.dock.specs.declared.Refusal.{Refusal}
 use Rattle.frames.specs.Frames.{unpacked_of}
 use Rattle.history.specs.Scans.{says_held}
@@ -24,10 +24,8 @@ world dock onlooker set terminal = record { dock = dock; onlooker = onlooker; se
 
 -- The terminal takes a key byte, and nothing else that a read gives.
 abbrev pub takes : ℕ → Result (Option Given) Refusal → Terminal → Terminal
-takes set (Ok None) t = t
-takes set (Ok (Some (Reply byte))) t = t
 takes set (Ok (Some (KeyByte byte))) t = hears set t byte
-takes set (Err refusal) t = t
+takes set other t = t
 
 -- Power-on.
 unfoldable pub woken : Machine → World

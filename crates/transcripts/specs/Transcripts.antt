@@ -1,10 +1,10 @@
 -- Transcripts of calls (docs/RULES.md): what reads give on the way.
 -- Assumes nothing. Edits of must-fail/ put what they import in the place of these two lines.
-use Rattle.std.specs.Prelude.{ℕ, Bool, true, List, [], ◌∷◌, ◌++◌, Option, Some, None, Result, Ok, Err}
+use Rattle.std.specs.Prelude.{ℕ, Bool, true, List, [], ◌∷◌, ◌++◌, Option, Some, None, Result, Ok}
 use Rattle.basics.specs.Choice.{both}
 use Rattle.basics.specs.Lists.{same}
 use Rattle.dock.specs.declared.Given.{Given}
-use Rattle.dock.specs.declared.Given.TheVariants.{Reply, KeyByte}
+use Rattle.dock.specs.declared.Given.TheVariants.{Reply}
 use Rattle.dock.specs.declared.Refusal.{Refusal}
 use Rattle.dock.specs.Answers.{Taken, taken}
 use Rattle.dock.specs.Scan.{scan_of}
@@ -34,10 +34,8 @@ gives of-kind d (call ∷ calls) = let t = called d call in of-kind t.given ++ g
 
 -- The reply among what a read gives.
 abbrev pub reply_of : Result (Option Given) Refusal → List ℕ
-reply_of (Ok None) = []
 reply_of (Ok (Some (Reply byte))) = byte ∷ []
-reply_of (Ok (Some (KeyByte byte))) = []
-reply_of (Err refusal) = []
+reply_of other = []
 
 -- Calls that lead up to something, calls after them, and what these are to give.
 pub record Transcript : Type 0 where

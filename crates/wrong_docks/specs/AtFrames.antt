@@ -5,7 +5,7 @@ use Rattle.commands.specs.Commands.{with_set}
 use Rattle.contacts.specs.Counts.{unseen}
 use Rattle.dock.specs.Frame.{frame_of}
 use Rattle.frames.specs.Frames.{packed_of}
-use Rattle.queue.specs.Queues.{waiting, queue_of}
+use Rattle.queue.specs.Queues.{queue_of}
 use Rattle.record.specs.Views.{with_queue, keys_of, contacts_of}
 use Rattle.record.specs.Parts.{with_waiting, with_contacts, with_scanning, with_keys, with_map, with_handover}
 use Rattle.record.specs.Power.{plain_map}

@@ -1,9 +1,9 @@
 -- Docks that are wrong at a read, or in their table (docs/RULES.md, sections 1 and 7). Assumes nothing.
-use Rattle.std.specs.Prelude.{ℕ, eqb, Option, Some, None, Result, Ok, Err}
+use Rattle.std.specs.Prelude.{ℕ, eqb, Option, Some, None, Result, Ok}
 use Rattle.basics.specs.Choice.{pick}
 use Rattle.dock.specs.Answers.{taken}
 use Rattle.dock.specs.Read.{read_of}
-use Rattle.dock.specs.declared.Given.TheVariants.{Reply, KeyByte}
+use Rattle.dock.specs.declared.Given.TheVariants.{KeyByte}
 use Rattle.dock.specs.declared.Refusal.{Refusal}
 use Rattle.dock.specs.declared.Given.{Given}
 use Rattle.record.specs.declared.Dock.{Dock}
@@ -16,10 +16,8 @@ reads_nothing = reading_by (λ (d : Dock). taken (Ok None) (read_of d).dock)
 
 -- A key byte that is given is another.
 abbrev pub other_byte : (ℕ → ℕ) → Result (Option Given) Refusal → Result (Option Given) Refusal
-other_byte f (Ok None) = Ok None
-other_byte f (Ok (Some (Reply byte))) = Ok (Some (Reply byte))
 other_byte f (Ok (Some (KeyByte byte))) = Ok (Some (KeyByte (f byte)))
-other_byte f (Err refusal) = Err refusal
+other_byte f other = other
 
 -- Every key byte is the same,
 unfoldable pub one_constant_byte : Machine

@@ -1,5 +1,5 @@
 -- Docks that are wrong at a scan (docs/RULES.md, sections 5 to 7). Assumes nothing.
-use Rattle.std.specs.Prelude.{ℕ, ◌+◌, Bool, true, false, not, List, [], ◌∷◌, ◌++◌, eqb, get_or, length, replicate}
+use Rattle.std.specs.Prelude.{ℕ, Bool, true, false, not, List, [], ◌∷◌, ◌++◌, eqb, get_or, length, replicate}
 use Rattle.basics.specs.Choice.{pick, both, either}
 use Rattle.basics.specs.Lists.{all_up_to}
 use Rattle.codes.specs.declared.Action.TheVariants.{Repeat}

@@ -6,7 +6,7 @@ use Rattle.dock.specs.Answers.{taken}
 use Rattle.dock.specs.Closing.{closing}
 use Rattle.dock.specs.Frame.{frame_of}
 use Rattle.dock.specs.Read.{read_of}
-use Rattle.dock.specs.Scan.{repeating, scan_of}
+use Rattle.dock.specs.Scan.{scan_of}
 use Rattle.dock.specs.Swap.{swap_of, swapped}
 use Rattle.keys.specs.Keys.{last_key}
 use Rattle.maps.specs.Maps.{has_double}
