@@ -2,7 +2,6 @@
 use Rattle.std.specs.Prelude.{ℕ, Bool, false, eqb, Result, Ok, Err}
 use Rattle.basics.specs.Choice.{either, between}
 use Rattle.frames.specs.declared.FrameError.{FrameError}
-use Rattle.frames.specs.declared.FrameError.TheVariants.{Broken, TooLarge}
 use Rattle.frames.specs.Frames.{unpacked_of}
 use Rattle.dock.specs.Calls.{Call, Scan, Swap, Frame, Read}
 
@@ -13,8 +12,7 @@ clears byte = either (eqb byte 0xf0) (either (between 0xf4 0xfd byte) (eqb byte 
 -- A frame that carries a byte with some property; a broken one and one over 2047 carry none.
 abbrev pub carries : (ℕ → Bool) → Result ℕ FrameError → Bool
 carries property (Ok byte) = property byte
-carries property (Err Broken) = false
-carries property (Err TooLarge) = false
+carries property (Err error) = false
 
 -- A frame whose byte clears the queue.
 unfoldable pub is_clearing : ℕ → Bool

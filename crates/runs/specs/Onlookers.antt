@@ -3,7 +3,6 @@ use Rattle.std.specs.Prelude.{ℕ, Bool, true, false, not, List, [], ◌∷◌, 
 use Rattle.basics.specs.Choice.{pick, both}
 use Rattle.basics.specs.Lists.{all_up_to}
 use Rattle.frames.specs.declared.FrameError.{FrameError}
-use Rattle.frames.specs.declared.FrameError.TheVariants.{Broken, TooLarge}
 use Rattle.keys.specs.Keys.{last_key}
 use Rattle.maps.specs.Maps.{has_double}
 use Rattle.record.specs.Power.{plain_map}
@@ -70,5 +69,4 @@ saw_byte byte o =
 -- A frame: a broken one and one over 2047 carry no byte.
 abbrev pub saw_frame : Result ℕ FrameError → Onlooker → Onlooker
 saw_frame (Ok byte) o = saw_byte byte o
-saw_frame (Err Broken) o = o
-saw_frame (Err TooLarge) o = o
+saw_frame (Err error) o = o
