@@ -4,44 +4,29 @@
 ghost use Rattle.std.specs.Prelude.{◌≡◌, ◌≤◌, ◌+◌, length};
 ghost use Rattle.printing.specs.Printing.{answer_prints, read_prints, characters, written_at};
 
-use dock::{Answer, Given};
+use dock::{Given, Refusal};
 
-// What a line prints.
-#[derive(Clone, Copy)]
-pub enum Printed {
-    // Nothing.
-    Silence,
-    // The frame that a read gave; 0 if it gave none.
-    FrameLine(u16),
-    // ! and the number of a refusal.
-    RefusalLine(u8),
-}
+// What a line prints: nothing, or the frame that a read gave, 0 if it gave none; of a refused one ! and its number. That may be any byte, and not
+// only the number of a `Refusal`: the 8 of a malformed line is none, and `put` takes them all.
+pub type Printed = Result<Option<u16>, u8>;
 
 // What an answer prints.
-pub fn answer_prints(answer: Answer) -> Printed
+pub fn answer_prints(answer: Result<(), Refusal>) -> Printed
     ensures { result ≡ answer_prints answer }
 {
-    match answer {
-        Answer::Accepted => Printed::Silence,
-        Answer::ScanLength => Printed::RefusalLine(1),
-        Answer::MapLength => Printed::RefusalLine(2),
-        Answer::MapEntry => Printed::RefusalLine(3),
-        Answer::MapDouble => Printed::RefusalLine(4),
-        Answer::FrameNumber => Printed::RefusalLine(5),
-        Answer::BadRecord => Printed::RefusalLine(9),
-    }
+    answer.map_err(Refusal::number)?;
+    Ok(None)
 }
 
 // What a read prints.
-pub fn read_prints(given: Given) -> Printed
+pub fn read_prints(given: Result<Option<Given>, Refusal>) -> Printed
     ensures { result ≡ read_prints given }
 {
-    match given {
-        Given::Nothing => Printed::FrameLine(0),
-        Given::Reply(byte) => Printed::FrameLine(frames::pack(byte)),
-        Given::KeyByte(byte) => Printed::FrameLine(frames::pack(byte)),
-        Given::Refused => Printed::RefusalLine(9),
-    }
+    let frame = match given.map_err(Refusal::number)? {
+        None => 0,
+        Some(Given::Reply(byte) | Given::KeyByte(byte)) => frames::pack(byte),
+    };
+    Ok(Some(frame))
 }
 
 // Puts what a line prints at a place of the output, and gives the place behind it.
@@ -50,18 +35,20 @@ pub fn put(out: &mut [u8], at: usize, printed: Printed) -> usize
     ensures { (result ≡ at + length (characters printed)) × (out.new ≡ written_at at (characters printed) out.old) }
 {
     match printed {
-        Printed::Silence => at,
-        Printed::FrameLine(frame) => {
-            out[at] = digits::digit_of((frame / 256 % 16) as u8);
-            out[at + 1] = digits::digit_of((frame / 16 % 16) as u8);
-            out[at + 2] = digits::digit_of((frame % 16) as u8);
-            out[at + 3] = b'\n';
+        Ok(None) => at,
+        Ok(Some(frame)) => {
+            let line = [
+                digits::digit_of((frame / 256 % 16) as u8),
+                digits::digit_of((frame / 16 % 16) as u8),
+                digits::digit_of((frame % 16) as u8),
+                b'\n',
+            ];
+            out[at..at + 4].copy_from_slice(&line);
             at + 4
         }
-        Printed::RefusalLine(number) => {
-            out[at] = b'!';
-            out[at + 1] = digits::digit_of(number % 16);
-            out[at + 2] = b'\n';
+        Err(number) => {
+            let line = [b'!', digits::digit_of(number % 16), b'\n'];
+            out[at..at + 3].copy_from_slice(&line);
             at + 3
         }
     }

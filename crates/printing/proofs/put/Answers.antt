@@ -1,31 +1,23 @@
--- `printing::put` meets its contract: the places written stay inside the output, into which four characters more fit, and hold the digits of
--- what is printed. Assumes nothing.
+-- `printing::put` meets its contract: four characters more fit into the output, and those of what is printed are put there. Assumes nothing.
+use mathlib.Core.Path.{◌≡◌, refl, ◌∙◌}
 use native.Mathlib.Omega.{arith}
-use lib.ListN.{length-set}
-use Rattle.printing.proofs.Prints.{puts_nothing, puts_frame, puts_refusal}
+use borrow.Author.Rules.{rules}
+use Rattle.std.specs.Prelude.{Some, None, Ok}
+use Rattle.printing.proofs.Prints.{puts_nothing, puts}
 use Rattle.printing.proofs.put.Goals as goal
 
-pub bounds-out-at-in-FrameLine : goal.bounds-out-at-in-FrameLine
-bounds-out-at-in-FrameLine c = simp length-set (omega arith)
+pub returns-in-Ok-None : goal.returns-in-Ok-None
+returns-in-Ok-None c =
+    let printed : c.args.printed ≡ Ok None = search rules in
+    puts_nothing _ _ _ printed
 
-pub bounds-out-at-in-FrameLine-2 : goal.bounds-out-at-in-FrameLine-2
-bounds-out-at-in-FrameLine-2 c = simp length-set (omega arith)
+pub returns-in-Ok-Some : goal.returns-in-Ok-Some
+returns-in-Ok-Some c =
+    let printed : c.args.printed ≡ Ok (Some c.in-Ok-Some.frame) = search rules in
+    puts c.args.at 4 c.args.out.now _ c.args.printed _ printed
+    (c.copy_from_slice.ensures.after ∙ rw (c.digit_of.ensures, c.digit_of-in-Ok-Some.ensures, c.digit_of-in-Ok-Some-2.ensures)) refl c.requires
 
-pub bounds-out-at-in-FrameLine-3 : goal.bounds-out-at-in-FrameLine-3
-bounds-out-at-in-FrameLine-3 c = simp length-set (omega arith)
-
-pub bounds-out-at-in-RefusalLine-2 : goal.bounds-out-at-in-RefusalLine-2
-bounds-out-at-in-RefusalLine-2 c = simp length-set (omega arith)
-
-pub bounds-out-at-in-RefusalLine-3 : goal.bounds-out-at-in-RefusalLine-3
-bounds-out-at-in-RefusalLine-3 c = simp length-set (omega arith)
-
-pub returns-in-Silence : goal.returns-in-Silence
-returns-in-Silence c = puts_nothing _ _ _ c.in-Silence.is
-
-pub returns-in-FrameLine : goal.returns-in-FrameLine
-returns-in-FrameLine c =
-    puts_frame _ _ _ _ _ _ _ c.in-FrameLine.is c.digit_of.ensures c.digit_of-in-FrameLine.ensures c.digit_of-in-FrameLine-2.ensures
-
-pub returns-in-RefusalLine : goal.returns-in-RefusalLine
-returns-in-RefusalLine c = puts_refusal _ _ _ _ _ c.in-RefusalLine.is c.digit_of-in-RefusalLine.ensures
+pub returns-in-Err : goal.returns-in-Err
+returns-in-Err c =
+    puts c.args.at 3 c.args.out.now _ c.args.printed _ c.in-Err.is (c.copy_from_slice-in-Err.ensures.after ∙ rw c.digit_of-in-Err.ensures) refl
+    (omega arith)
