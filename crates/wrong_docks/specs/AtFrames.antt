@@ -24,7 +24,7 @@ at_value command value f =
     let e = (frame_of d number).dock in pick (both (eqb number (packed_of value)) (eqb d.rest.waiting command)) (f d e) e)
 
 -- Deaf after F2: it waits for a value, as ED does.
-unfoldable pub deaf_after_identify : Machine
+abbrev pub deaf_after_identify : Machine
 deaf_after_identify = at_byte 0xf2 (λ d e. with_waiting e 0xed)
 
 -- A dock with the set of another.
@@ -32,71 +32,71 @@ abbrev pub with_set_of : Dock → Dock → Dock
 with_set_of d e = with_set d.rest.mode.set e
 
 -- F6 keeps the set,
-unfoldable pub default_keeps_the_set : Machine
+abbrev pub default_keeps_the_set : Machine
 default_keeps_the_set = at_byte 0xf6 with_set_of
 
 -- or drops the contact history;
-unfoldable pub default_forgets_history : Machine
+abbrev pub default_forgets_history : Machine
 default_forgets_history = at_byte 0xf6 (λ d e. with_contacts e unseen)
 
 -- so does F4.
-unfoldable pub enable_forgets_history : Machine
+abbrev pub enable_forgets_history : Machine
 enable_forgets_history = at_byte 0xf4 (λ d e. with_contacts e unseen)
 
 -- F5 leaves scanning on.
-unfoldable pub disable_keeps_scanning : Machine
+abbrev pub disable_keeps_scanning : Machine
 disable_keeps_scanning = at_byte 0xf5 (λ d e. with_scanning e d.rest.scanning)
 
 -- ED clears the queue.
-unfoldable pub indicators_clear : Machine
+abbrev pub indicators_clear : Machine
 indicators_clear = at_byte 0xed (λ d e. with_keys e (with_queue (keys_of e) (queue_of [])))
 
 -- The value of F0 chooses no set.
-unfoldable pub set_not_chosen : Machine
+abbrev pub set_not_chosen : Machine
 set_not_chosen = framing_by (λ (d : Dock) (number : ℕ). let e = (frame_of d number).dock in pick (eqb d.rest.waiting 0xf0) (with_set_of d e) e)
 
 -- The question which set is in use chooses one,
-unfoldable pub question_chooses : Machine
+abbrev pub question_chooses : Machine
 question_chooses = at_value 0xf0 0 (λ d e. with_set 1 e)
 
 -- or leaves F0 waiting.
-unfoldable pub question_leaves_wait : Machine
+abbrev pub question_leaves_wait : Machine
 question_leaves_wait = at_value 0xf0 0 (λ d e. with_waiting e 0xf0)
 
 -- A wrong value ends the wait for the right one,
-unfoldable pub wrong_value_ends_wait : Machine
+abbrev pub wrong_value_ends_wait : Machine
 wrong_value_ends_wait = at_value 0xf3 0x80 (λ d e. with_waiting e 0)
 
 -- FE does,
-unfoldable pub resend_ends_wait : Machine
+abbrev pub resend_ends_wait : Machine
 resend_ends_wait = at_byte 0xfe (λ d e. with_waiting e 0)
 
 -- a broken frame does,
-unfoldable pub broken_ends_wait : Machine
+abbrev pub broken_ends_wait : Machine
 broken_ends_wait = framing_by (λ (d : Dock) (number : ℕ). let e = (frame_of d number).dock in pick (eqb number 0) (with_waiting e 0) e)
 
 -- or EF does not.
-unfoldable pub ef_leaves_wait : Machine
+abbrev pub ef_leaves_wait : Machine
 ef_leaves_wait = at_byte 0xef (λ d e. with_waiting e d.rest.waiting)
 
 -- The reset brings back the plain map,
-unfoldable pub reset_loses_map : Machine
+abbrev pub reset_loses_map : Machine
 reset_loses_map = at_byte 0xff (λ d e. with_map e plain_map)
 
 -- leaves scanning off,
-unfoldable pub reset_keeps_scanning_off : Machine
+abbrev pub reset_keeps_scanning_off : Machine
 reset_keeps_scanning_off = at_byte 0xff (λ d e. with_scanning e d.rest.scanning)
 
 -- or keeps the contact history.
-unfoldable pub reset_keeps_history : Machine
+abbrev pub reset_keeps_history : Machine
 reset_keeps_history = at_byte 0xff (λ d e. with_contacts e (contacts_of d))
 
 -- A handover does not go on at a frame.
-unfoldable pub frames_leave_handover : Machine
+abbrev pub frames_leave_handover : Machine
 frames_leave_handover =
     framing_by (λ (d : Dock) (number : ℕ).
     pick d.rest.handover (with_handover (frame_of (with_handover d false) number).dock true) (frame_of d number).dock)
 
 -- Parity is not looked at.
-unfoldable pub any_parity : Machine
+abbrev pub any_parity : Machine
 any_parity = framing_by (λ (d : Dock) (number : ℕ). (frame_of d (pick (leb number 2047) (packed_of (number / 2 % 256)) number)).dock)

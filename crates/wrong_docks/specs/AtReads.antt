@@ -11,7 +11,7 @@ use Rattle.runs.specs.Machines.{Machine}
 use Rattle.wrong_docks.specs.Docks.{reading_by}
 
 -- Reads are always empty.
-unfoldable pub reads_nothing : Machine
+abbrev pub reads_nothing : Machine
 reads_nothing = reading_by (λ (d : Dock). taken (Ok None) (read_of d).dock)
 
 -- A key byte that is given is another.
@@ -20,9 +20,9 @@ other_byte f (Ok (Some (KeyByte byte))) = Ok (Some (KeyByte (f byte)))
 other_byte f other = other
 
 -- Every key byte is the same,
-unfoldable pub one_constant_byte : Machine
+abbrev pub one_constant_byte : Machine
 one_constant_byte = reading_by (λ (d : Dock). let t = read_of d in taken (other_byte (λ byte. 0x1c) t.given) t.dock)
 
 -- or the table has 1F where the code of the 2 is 1E.
-unfoldable pub one_wrong_byte : Machine
+abbrev pub one_wrong_byte : Machine
 one_wrong_byte = reading_by (λ (d : Dock). let t = read_of d in taken (other_byte (λ byte. pick (eqb byte 0x1e) 0x1f byte) t.given) t.dock)

@@ -16,27 +16,27 @@ use Rattle.sending.specs.Sending.{sends, queued_of}
 use Rattle.wrong_docks.specs.Docks.{scanning_by}
 
 -- Scans are counted while a command waits for its value,
-unfoldable pub counts_while_command_waits : Machine
+abbrev pub counts_while_command_waits : Machine
 counts_while_command_waits = scanning_by (λ (d : Dock) (scan : List ℕ). with_waiting (scan_of (with_waiting d 0) scan).dock d.rest.waiting)
 
 -- while scanning is off,
-unfoldable pub counts_while_scanning_off : Machine
+abbrev pub counts_while_scanning_off : Machine
 counts_while_scanning_off = scanning_by (λ (d : Dock) (scan : List ℕ). with_scanning (scan_of (with_scanning d true) scan).dock d.rest.scanning)
 
 -- while a swap is unfinished,
-unfoldable pub counts_during_handover : Machine
+abbrev pub counts_during_handover : Machine
 counts_during_handover =
     scanning_by (λ (d : Dock) (scan : List ℕ).
     pick d.rest.handover (with_handover (scan_of (with_handover d false) scan).dock true) (scan_of d scan).dock)
 
 -- though they are phantom,
-unfoldable pub counts_phantoms : Machine
+abbrev pub counts_phantoms : Machine
 counts_phantoms =
     scanning_by (λ (d : Dock) (scan : List ℕ).
     pick (both (listening d) (is_phantom scan)) (repeating (counting (with_keys d (ticked (keys_of d))) scan)) (scan_of d scan).dock)
 
 -- or twice, so that two are enough.
-unfoldable pub counts_twice : Machine
+abbrev pub counts_twice : Machine
 counts_twice = scanning_by (λ (d : Dock) (scan : List ℕ). (scan_of (scan_of d scan).dock scan).dock)
 
 -- Two columns side by side share two rows.
@@ -46,58 +46,58 @@ next_door (x ∷ []) = false
 next_door (x ∷ y ∷ rest) = either (is_phantom (x ∷ y ∷ [])) (next_door (y ∷ rest))
 
 -- Only neighbouring columns are held against each other in the phantom test.
-unfoldable pub phantom_next_door : Machine
+abbrev pub phantom_next_door : Machine
 phantom_next_door =
     scanning_by (λ (d : Dock) (scan : List ℕ).
     pick (both (listening d) (both (is_phantom scan) (not (next_door scan)))) (repeating (counting (with_keys d (ticked (keys_of d))) scan)) (scan_of d scan).dock)
 
 -- Two scans that show a contact open are enough.
-unfoldable pub two_open_are_enough : Machine
+abbrev pub two_open_are_enough : Machine
 two_open_are_enough = scanning_by (λ (d : Dock) (scan : List ℕ). pick (both (all_up_to 0 scan) (not (all_up_to 0 d.closed))) (scan_of (scan_of d scan).dock scan).dock (scan_of d scan).dock)
 
 -- 17 bytes are taken for a scan.
-unfoldable pub takes_short_scans : Machine
+abbrev pub takes_short_scans : Machine
 takes_short_scans = scanning_by (λ (d : Dock) (scan : List ℕ). pick (eqb (length scan) 17) (scan_of d (scan ++ 0 ∷ [])).dock (scan_of d scan).dock)
 
 -- A phantom scan ends the rows of scans, where it is to be passed over;
-unfoldable pub phantom_breaks_row : Machine
+abbrev pub phantom_breaks_row : Machine
 phantom_breaks_row =
     scanning_by (λ (d : Dock) (scan : List ℕ).
     let e = (scan_of d scan).dock in
     pick (both (listening d) (is_phantom scan)) (with_contacts e (contacts e.closed (replicate 144 0))) e)
 
 -- so does one that comes while a command waits, scanning is off or a swap is unfinished.
-unfoldable pub passed_over_breaks_row : Machine
+abbrev pub passed_over_breaks_row : Machine
 passed_over_breaks_row =
     scanning_by (λ (d : Dock) (scan : List ℕ).
     let e = (scan_of d scan).dock in
     pick (listening d) e (with_contacts e (contacts e.closed (replicate 144 0))))
 
 -- Scans are passed over once one has shown something,
-unfoldable pub handles_first_scan_only : Machine
+abbrev pub handles_first_scan_only : Machine
 handles_first_scan_only = scanning_by (λ (d : Dock) (scan : List ℕ). pick (all_up_to 0 d.counts) (scan_of d scan).dock d)
 
 -- while a reply waits,
-unfoldable pub deaf_while_reply_waits : Machine
+abbrev pub deaf_while_reply_waits : Machine
 deaf_while_reply_waits = scanning_by (λ (d : Dock) (scan : List ℕ). pick (eqb d.rest.replies.length 0) (scan_of d scan).dock d)
 
 -- or while the queue is full.
-unfoldable pub deaf_while_full : Machine
+abbrev pub deaf_while_full : Machine
 deaf_while_full = scanning_by (λ (d : Dock) (scan : List ℕ). pick (eqb (length (waiting d.rest.outgoing.queue)) 16) d (scan_of d scan).dock)
 
 -- The last place of the queue is not used: what would fill it is dropped.
-unfoldable pub queue_of15 : Machine
+abbrev pub queue_of15 : Machine
 queue_of15 =
     scanning_by (λ (d : Dock) (scan : List ℕ).
     let e = (scan_of d scan).dock in
     pick (eqb (length (waiting e.rest.outgoing.queue)) 16) (with_keys e (with_queue (keys_of e) d.rest.outgoing.queue)) e)
 
 -- Nothing is sent.
-unfoldable pub sends_nothing : Machine
+abbrev pub sends_nothing : Machine
 sends_nothing = scanning_by (λ (d : Dock) (scan : List ℕ). let e = (scan_of d scan).dock in with_keys e (with_queue (keys_of e) (queue_of [])))
 
 -- A repeat goes on after its key came up.
-unfoldable pub repeat_goes_on_after_release : Machine
+abbrev pub repeat_goes_on_after_release : Machine
 repeat_goes_on_after_release =
     scanning_by (λ (d : Dock) (scan : List ℕ).
     let e = (scan_of d scan).dock in
@@ -119,5 +119,5 @@ lost_repeat d e =
     (both (eqb e.rest.outgoing.repeating d.rest.outgoing.repeating) (not (eqb (length (waiting d.rest.outgoing.queue)) 0)))))
 
 -- A repeat that falls due while key bytes wait is queued, and leaves the mark where it does not fit.
-unfoldable pub repeats_overrun : Machine
+abbrev pub repeats_overrun : Machine
 repeats_overrun = scanning_by (λ (d : Dock) (scan : List ℕ). let e = (scan_of d scan).dock in pick (lost_repeat d e) (repeat_behind true e) e)

@@ -19,29 +19,29 @@ use Rattle.runs.specs.Machines.{Machine}
 use Rattle.wrong_docks.specs.Docks.{swapping_by}
 
 -- The contact history is cleared and the list of held keys is not: the limestone.
-unfoldable pub keeps_held_keys : Machine
+abbrev pub keeps_held_keys : Machine
 keeps_held_keys = swapping_by (λ (d : Dock) (map : List ℕ). with_handover (with_keys (swap_of d map).dock (keys_of d)) d.rest.handover)
 
 -- The held keys are forgotten, and no release is sent.
-unfoldable pub forgets_held_keys : Machine
+abbrev pub forgets_held_keys : Machine
 forgets_held_keys =
     swapping_by (λ (d : Dock) (map : List ℕ).
     with_handover (with_keys (swap_of d map).dock (keys (replicate 144 0) d.rest.outgoing.queue 0 0)) d.rest.handover)
 
 -- The same of the media keys alone.
-unfoldable pub forgets_media_keys : Machine
+abbrev pub forgets_media_keys : Machine
 forgets_media_keys =
     swapping_by (λ (d : Dock) (map : List ℕ).
     let k = keys_of d in (swap_of (with_keys d (keys (take 105 k.held ++ replicate 39 0) k.queue k.repeating k.countdown)) map).dock)
 
 -- The releases that do not fit at once are dropped,
-unfoldable pub drops_releases : Machine
+abbrev pub drops_releases : Machine
 drops_releases =
     swapping_by (λ (d : Dock) (map : List ℕ).
     let e = (swap_of d map).dock in with_handover (with_keys e (keys (replicate 144 0) e.rest.outgoing.queue 0 0)) false)
 
 -- or leave the overrun mark,
-unfoldable pub swap_overruns : Machine
+abbrev pub swap_overruns : Machine
 swap_overruns =
     swapping_by (λ (d : Dock) (map : List ℕ).
     let e = (swap_of d map).dock in
@@ -52,7 +52,7 @@ abbrev pub lazily : Dock → Dock → Dock
 lazily d e = pick d.rest.handover (pick (eqb e.rest.outgoing.queue.length 0) (closing (with_handover e true)) (with_handover e true)) e
 
 -- or wait until the queue is empty.
-unfoldable pub hands_when_empty : Machine
+abbrev pub hands_when_empty : Machine
 hands_when_empty =
     record {
       wakes = power_on;
@@ -67,7 +67,7 @@ abbrev pub open_while_bytes_wait : Bool → Dock → Dock
 open_while_bytes_wait was e = with_handover e (either e.rest.handover (both was (not (eqb e.rest.outgoing.queue.length 0))))
 
 -- Deaf after a swap: the handover stays open as long as key bytes wait, though every key is released.
-unfoldable pub deaf_after_swap : Machine
+abbrev pub deaf_after_swap : Machine
 deaf_after_swap =
     record {
       wakes = power_on;
@@ -78,39 +78,39 @@ deaf_after_swap =
     }
 
 -- The map of the panel before stays in force.
-unfoldable pub keeps_old_map : Machine
+abbrev pub keeps_old_map : Machine
 keeps_old_map = swapping_by (λ (d : Dock) (map : List ℕ). with_map (swap_of d map).dock d.map)
 
 -- The contact history stays.
-unfoldable pub keeps_history : Machine
+abbrev pub keeps_history : Machine
 keeps_history = swapping_by (λ (d : Dock) (map : List ℕ). with_contacts (swap_of d map).dock (contacts_of d))
 
 -- The repeat goes on.
-unfoldable pub keeps_repeating : Machine
+abbrev pub keeps_repeating : Machine
 keeps_repeating =
     swapping_by (λ (d : Dock) (map : List ℕ).
     let e = (swap_of d map).dock in with_keys e (with_repeat (keys_of e) d.rest.outgoing.repeating d.rest.outgoing.countdown))
 
 -- What waits to be read is dropped.
-unfoldable pub swap_clears_queue : Machine
+abbrev pub swap_clears_queue : Machine
 swap_clears_queue = swapping_by (λ (d : Dock) (map : List ℕ). (swap_of (with_keys d (with_queue (keys_of d) (queue_of []))) map).dock)
 
 -- A second swap is passed over while a handover is open,
-unfoldable pub second_swap_ignored : Machine
+abbrev pub second_swap_ignored : Machine
 second_swap_ignored = swapping_by (λ (d : Dock) (map : List ℕ). pick d.rest.handover d (swap_of d map).dock)
 
 -- or ends the handover.
-unfoldable pub second_swap_ends_handover : Machine
+abbrev pub second_swap_ends_handover : Machine
 second_swap_ends_handover =
     swapping_by (λ (d : Dock) (map : List ℕ).
     pick d.rest.handover (swap_of (with_handover (with_keys d (keys (replicate 144 0) d.rest.outgoing.queue 0 0)) false) map).dock (swap_of d map).dock)
 
 -- A map with a media key is refused.
-unfoldable pub refuses_media_keys : Machine
+abbrev pub refuses_media_keys : Machine
 refuses_media_keys = swapping_by (λ (d : Dock) (map : List ℕ). pick (all_up_to 104 map) (swap_of d map).dock d)
 
 -- A map with a key twice is taken.
-unfoldable pub takes_doubles : Machine
+abbrev pub takes_doubles : Machine
 takes_doubles =
     swapping_by (λ (d : Dock) (map : List ℕ).
     pick (both (eqb (length map) 144) (both (all_up_to last_key map) (has_double map))) (swapped d map) (swap_of d map).dock)
