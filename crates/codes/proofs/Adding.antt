@@ -9,12 +9,12 @@ use lib.Seq.{append_snoc, set-append_seam, take-append_seam}
 use Rattle.codes.specs.declared.Sequence.{Sequence}
 use Rattle.codes.specs.Sequences.{holding, adding}
 
-adding_length : (l : List ℕ) (s : Sequence) → (adding s l).length ≡ s.length + length l
+pub adding_length : (l : List ℕ) (s : Sequence) → (adding s l).length ≡ s.length + length l
 unfolding adding
 adding_length [] s = sym (add-zero s.length)
 adding_length (b ∷ l) s = adding_length l _ ∙ omega arith
 
-adding_append : (l : List ℕ) (s : Sequence) (m : List ℕ) → adding (adding s l) m ≡ adding s (l ++ m)
+pub adding_append : (l : List ℕ) (s : Sequence) (m : List ℕ) → adding (adding s l) m ≡ adding s (l ++ m)
 unfolding adding
 adding_append [] s m = refl
 adding_append (b ∷ l) s m = adding_append l _ m
@@ -25,7 +25,7 @@ one_held l b h =
     let free : 8 - length l ≡ suc (8 - length (l ++ b ∷ [])) = rw length-append (omega arith) in
     rw (free, set-append_seam, length-append, append_snoc)
 
-adding_holding : (l m : List ℕ) → length l + length m ≤ 8 → adding (holding l) m ≡ holding (l ++ m)
+pub adding_holding : (l m : List ℕ) → length l + length m ≤ 8 → adding (holding l) m ≡ holding (l ++ m)
 unfolding adding
 adding_holding l [] h = rw append-nil
 adding_holding l (b ∷ m) h =

@@ -1,3 +1,4 @@
+pub mod Places
 pub mod Modifiers
 pub mod Codes
 pub mod Sequences

@@ -2,13 +2,15 @@
 // the keys with one form; which form a key takes is in `forms`, and the bytes of any action in `sequences`.
 #![tactic(auto)]
 
+use std::marker::Model;
+
 pub mod bytes; // bytes.rt: bytes put one after another
 pub mod rows; // rows.rt: what a key's number and its type say
 pub mod plain; // plain.rt: the bytes of an action of a key with one form
 
 // What a key does: an event of the rules. Here it is an action, since the reader's Event is what bytes tell. And a key's type is
 // called kind, since `type` is a reserved word.
-#[derive(Clone, Copy)]
+#[derive(Clone, Copy, PartialEq, Eq)]
 pub enum Action {
     Press,
     Release,
@@ -16,7 +18,7 @@ pub enum Action {
 }
 
 // The shape that a key's bytes take by the modifiers and Num Lock.
-#[derive(Clone, Copy)]
+#[derive(Clone, Copy, PartialEq, Eq)]
 pub enum Form {
     // The code alone.
     Plain,
@@ -30,9 +32,22 @@ pub enum Form {
     Other,
 }
 
-// The bytes of one action: the first `length` of `bytes`, and zeros behind them.
+// The bytes of one action, 8 at most: the first `length` of `bytes`.
 #[derive(Clone, Copy)]
 pub struct Sequence {
     pub bytes: [u8; 8],
     pub length: usize,
+}
+
+impl Model for Sequence {
+    ghost use Rattle.std.specs.Prelude.{◌≤◌};
+    ghost use Rattle.codes.specs.Places.{Places};
+
+    ghost Value = { Places };
+
+    ghost view = { λ s. record { bytes = s.bytes; length = s.length } };
+
+    ghost invariant = { λ s. s.length ≤ 8 };
+
+    ghost inverse = { λ s. record { bytes = s.bytes; length = s.length } };
 }

@@ -3,7 +3,6 @@ ghost use Rattle.std.specs.Prelude.{◌≡◌, Bool, false, ℕ};
 ghost use Rattle.codes.specs.Codes.{make_of, break_of, has_forms, encode};
 ghost use Rattle.codes.specs.Sequences.{holding};
 
-use crate::bytes::empty;
 use crate::rows::{has_code, may_repeat, sends_release};
 use crate::{Action, Sequence};
 use keys::Table;
@@ -63,19 +62,19 @@ pub fn plain_sequence(table: &Table, set: u8, key: u8, action: Action, kind: u8)
     ensures { (modifiers : ℕ) (lock : Bool) → result ≡ holding (encode set key action kind modifiers lock) }
 {
     if !has_code(set, key) {
-        return empty();
+        return Sequence::new();
     }
     match action {
         Action::Press => make_of(table.code(set, key)),
         Action::Release => {
             if !sends_release(set, kind) {
-                return empty();
+                return Sequence::new();
             }
             break_of(set, table.code(set, key))
         }
         Action::Repeat => {
             if !may_repeat(set, key, kind) {
-                return empty();
+                return Sequence::new();
             }
             make_of(table.code(set, key))
         }

@@ -1,24 +1,21 @@
 -- What the encoder answers and leaves in the output, a law for each answer; and how large what it allows can be. Assumes nothing.
-use mathlib.Core.Path.{◌≡◌}
+use mathlib.Core.Path.{◌≡◌, ◌∙◌}
 use mathlib.Core.Bool.{Bool, true, false, not}
-use mathlib.Core.List.{List}
+use mathlib.Core.List.{List, ◌++◌}
 use Prim.Native.Nat.{ℕ, ◌≤◌, ◌<◌}
 use lib.Dec.{T, leb, leb→le}
-use lib.ListN.{length}
+use lib.ListN.{length, take, drop}
 use borrow.Author.Tests.{lt-ltb, le-ltb}
 use Rattle.basics.specs.Choice.{both, between}
 use Rattle.basics.proofs.Tables.{both_left, both_right}
 use Rattle.keys.specs.Keys.{last_key}
-use Rattle.encoder.specs.declared.Encoded.TheVariants.{Written, BadChoice, ShortOutput}
-use Rattle.codes.specs.declared.Sequence.{Sequence}
+use Rattle.std.specs.Prelude.{Ok, Err}
+use Rattle.encoder.specs.declared.EncodeError.TheVariants.{BadChoice, ShortOutput}
+use Rattle.codes.specs.Places.{Places}
 use Rattle.codes.specs.Sequences.{holding}
-use Rattle.encoder.specs.Encoder.{allowed, asked, over, written_to, encoded_of, encoded_said, output_of, Encodes}
-use Rattle.codes.proofs.Adding.{holding_length, holding_bytes}
+use Rattle.encoder.specs.Encoder.{allowed, asked, encoded_of, encoded_said, output_of, Encodes}
+use Rattle.codes.proofs.Adding.{holding_bytes}
 use Rattle.codes.proofs.Answers.{passed, refused}
-
--- A sequence written to the front of a list is its bytes laid over the list.
-holding_written : (l out : List ℕ) → written_to (holding l) out ≡ over l out
-holding_written l out = rw (holding_bytes l, holding_length l)
 
 module _ (set key event type modifiers lock : ℕ) (a : Bool) (e : a ≡ allowed set key event type modifiers lock) where
   -- What is allowed fits a byte.
@@ -40,12 +37,12 @@ module _ (set key event type modifiers lock : ℕ) (a : Bool) (e : a ≡ allowed
       )
 
   module _ (out : List ℕ) where
-    pub bad_choice : not a ≡ true → Encodes set key event type modifiers lock out BadChoice out
+    pub bad_choice : not a ≡ true → Encodes set key event type modifiers lock out (Err BadChoice) out
     unfolding encoded_of encoded_said output_of
     bad_choice n = record { answer = rw (refused e n); said = rw (refused e n); output = rw (refused e n) }
 
     module _ (p : not a ≡ false) where
-      pub short_output : length out < 8 → Encodes set key event type modifiers lock out ShortOutput out
+      pub short_output : length out < 8 → Encodes set key event type modifiers lock out (Err ShortOutput) out
       unfolding encoded_of encoded_said output_of
       short_output h = record {
         answer = rw (passed e p, lt-ltb _ _ h);
@@ -53,12 +50,14 @@ module _ (set key event type modifiers lock : ℕ) (a : Bool) (e : a ≡ allowed
         output = rw (passed e p, lt-ltb _ _ h);
       }
 
-      pub written : (s : Sequence) (out' : List ℕ) → 8 ≤ length out
-          → s ≡ holding (asked set key event type modifiers lock) → out' ≡ written_to s out
-          → Encodes set key event type modifiers lock out (Written s.length) out'
+      pub written : (s : Places) (b out' : List ℕ) → 8 ≤ length out → s ≡ holding (asked set key event type modifiers lock)
+          → b ≡ take s.length s.bytes → out' ≡ b ++ drop (length b) out
+          → Encodes set key event type modifiers lock out (Ok (length b)) out'
       unfolding encoded_of encoded_said output_of
-      written s out' h d w = record {
-        answer = rw (passed e p, le-ltb _ _ h, d, holding_length (asked set key event type modifiers lock));
-        said = rw (passed e p, le-ltb _ _ h, d, holding_length (asked set key event type modifiers lock));
-        output = rw (passed e p, le-ltb _ _ h, w, d) (holding_written (asked set key event type modifiers lock) out);
-      }
+      written s b out' h d w o =
+          let all : b ≡ asked set key event type modifiers lock = w ∙ rw d (holding_bytes _) in
+          record {
+            answer = rw (passed e p, le-ltb _ _ h, all);
+            said = rw (passed e p, le-ltb _ _ h, all);
+            output = rw (passed e p, le-ltb _ _ h, o, all);
+          }

@@ -4,59 +4,46 @@ ghost use Rattle.keys.specs.Keys.{left_wrap, right_wrap};
 ghost use Rattle.codes.specs.Codes.{before, after};
 ghost use Rattle.codes.specs.Sequences.{adding};
 
-use codes::bytes::{with_break, with_make};
 use codes::{Form, Sequence};
 
-// The code of SHIFT_L behind E0.
-fn left_wrap(set: u8) -> u16
-    ensures { result ≡ left_wrap set }
+// The codes of SHIFT_L and of SHIFT_R behind E0.
+fn wraps(set: u8) -> (u16, u16)
+    ensures { result ≡ (left_wrap set, right_wrap set) }
 {
-    if set == 1 { 0xe02a } else { 0xe012 }
-}
-
-// The code of SHIFT_R behind E0.
-fn right_wrap(set: u8) -> u16
-    ensures { result ≡ right_wrap set }
-{
-    if set == 1 { 0xe036 } else { 0xe059 }
+    match set {
+        1 => (0xe02a, 0xe036),
+        _ => (0xe012, 0xe059),
+    }
 }
 
 // What a form sends before a make.
+#[tactic(auto, using(codes::proofs::Adding::adding_append, codes::proofs::Adding::adding_length, codes::proofs::Lengths::break_short), unfolding(codes::specs::Codes::before, codes::specs::Sequences::adding))]
 pub(crate) fn with_before(sequence: Sequence, set: u8, form: Form) -> Sequence
     requires { sequence.length ≤ 2 }
     ensures { result ≡ adding sequence (before set form) }
 {
-    let left = left_wrap(set);
-    let right = right_wrap(set);
+    let (left, right) = wraps(set);
     match form {
-        Form::Plain => sequence,
-        Form::ShiftLeft => with_break(sequence, set, left),
-        Form::ShiftRight => with_break(sequence, set, right),
-        Form::ShiftBoth => {
-            let first = with_break(sequence, set, left);
-            with_break(first, set, right)
-        }
-        Form::NumLock => with_make(sequence, left),
-        Form::Other => sequence,
+        Form::Plain | Form::Other => sequence,
+        Form::ShiftLeft => sequence.with_break(set, left),
+        Form::ShiftRight => sequence.with_break(set, right),
+        Form::ShiftBoth => sequence.with_break(set, left).with_break(set, right),
+        Form::NumLock => sequence.with_make(left),
     }
 }
 
-// What a form sends after a break.
+// What a form sends after a break: the same undone, last first.
+#[tactic(auto, using(codes::proofs::Adding::adding_append, codes::proofs::Adding::adding_length, codes::proofs::Lengths::make_short), unfolding(codes::specs::Codes::after, codes::specs::Sequences::adding))]
 pub(crate) fn with_after(sequence: Sequence, set: u8, form: Form) -> Sequence
     requires { sequence.length ≤ 4 }
     ensures { result ≡ adding sequence (after set form) }
 {
-    let left = left_wrap(set);
-    let right = right_wrap(set);
+    let (left, right) = wraps(set);
     match form {
-        Form::Plain => sequence,
-        Form::ShiftLeft => with_make(sequence, left),
-        Form::ShiftRight => with_make(sequence, right),
-        Form::ShiftBoth => {
-            let first = with_make(sequence, right);
-            with_make(first, left)
-        }
-        Form::NumLock => with_break(sequence, set, left),
-        Form::Other => sequence,
+        Form::Plain | Form::Other => sequence,
+        Form::ShiftLeft => sequence.with_make(left),
+        Form::ShiftRight => sequence.with_make(right),
+        Form::ShiftBoth => sequence.with_make(right).with_make(left),
+        Form::NumLock => sequence.with_break(set, left),
     }
 }

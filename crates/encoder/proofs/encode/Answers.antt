@@ -3,8 +3,6 @@ use mathlib.Core.Path.{ap}
 use mathlib.Core.Bool.{not}
 use native.Mathlib.Omega.{arith}
 use Rattle.encoder.specs.Encoder.{asked}
-use Rattle.codes.proofs.Adding.{holding_length}
-use Rattle.codes.proofs.Lengths.{encode_short}
 use Rattle.encoder.proofs.Encoding.{allowed_range, bad_choice, short_output, written}
 use Rattle.encoder.proofs.encode.Goals as goal
 
@@ -30,12 +28,8 @@ pub overflow_cast-modifiers : goal.overflow_cast-modifiers
 overflow_cast-modifiers c =
     omega (arith, allowed_range _ _ _ _ _ _ _ c.is_allowed.ensures (ap not c.if-not-is_allowed.false))
 
-pub write-requires : goal.write-requires
-write-requires c =
-    (rw (c.sequence_of-sequence.ensures, holding_length) (encode_short _ _ _ _ _ _), c.if-out-lt8.false)
-
 pub returns : goal.returns
 unfolding asked
 returns c =
-    written _ _ _ _ _ _ _ c.is_allowed.ensures _ (ap not c.if-not-is_allowed.false) _ _ c.if-out-lt8.false
-    (rw c.action_of.ensures at c.sequence_of-sequence.ensures) c.write.ensures
+    written _ _ _ _ _ _ _ c.is_allowed.ensures _ (ap not c.if-not-is_allowed.false) _ _ _ c.if-out-lt8.false
+    (rw c.action_of.ensures at c.sequence_of-sequence.ensures) c.as_slice-bytes.ensures (rw c.copy_from_slice.ensures.after)

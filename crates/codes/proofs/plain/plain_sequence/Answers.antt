@@ -8,16 +8,16 @@ pub returns-then-not-has_code : goal.returns-then-not-has_code
 returns-then-not-has_code c = λ modifiers lock.
     let a = c.args in
     rw (uncoded_none a.set a.key a.kind (sym c.has_code.ensures ∙ c.if-not-has_code.true) a.action modifiers lock)
-    c.empty.ensures
+    c.new.ensures
 
 pub returns-then-not-sends_release : goal.returns-then-not-sends_release
 returns-then-not-sends_release c =
-    no_release _ _ c.requires (sym c.has_code.ensures ∙ c.if-not-has_code.false) _ _ _ c.empty-then-not-sends_release.ensures
+    no_release _ _ c.requires (sym c.has_code.ensures ∙ c.if-not-has_code.false) _ _ _ c.new-then-not-sends_release.ensures
     c.in-Release.is (sym c.sends_release.ensures ∙ c.if-not-sends_release.true)
 
 pub returns-then-not-may_repeat : goal.returns-then-not-may_repeat
 returns-then-not-may_repeat c =
-    no_repeat _ _ c.requires (sym c.has_code.ensures ∙ c.if-not-has_code.false) _ _ _ c.empty-then-not-may_repeat.ensures
+    no_repeat _ _ c.requires (sym c.has_code.ensures ∙ c.if-not-has_code.false) _ _ _ c.new-then-not-may_repeat.ensures
     c.in-Repeat.is (sym c.may_repeat.ensures ∙ c.if-not-may_repeat.true)
 
 pub returns-in-Press : goal.returns-in-Press

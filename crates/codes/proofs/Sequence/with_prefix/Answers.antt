@@ -1,8 +1,8 @@
--- `codes::bytes::with_prefix` meets its contract: a code without E0 adds nothing, any other adds its upper byte. Assumes nothing.
+-- `codes::Sequence::with_prefix` meets its contract: a code without E0 adds nothing, any other adds its upper byte. Assumes nothing.
 use borrow.Author.Tests.{ne_eqb}
 use Rattle.codes.specs.Codes.{prefix}
 use Rattle.codes.specs.Sequences.{adding}
-use Rattle.codes.proofs.bytes.with_prefix.Goals as goal
+use Rattle.codes.proofs.Sequence.with_prefix.Goals as goal
 
 pub returns-then-code-eq0 : goal.returns-then-code-eq0
 unfolding prefix adding
