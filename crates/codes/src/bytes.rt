@@ -7,6 +7,7 @@ use crate::Sequence;
 
 impl Sequence {
     // No bytes yet.
+    #[tactic(auto, unfolding(crate::specs::Sequences::holding))]
     pub fn new() -> Self
         ensures { result ≡ holding [] }
     {
@@ -36,14 +37,8 @@ impl Sequence {
         &self.bytes[..self.length]
     }
 
-    // How many they are.
-    pub fn len(&self) -> usize
-        ensures { result ≡ self.now.length }
-    {
-        self.length
-    }
-
     // One byte more.
+    #[tactic(auto, unfolding(crate::specs::Sequences::adding))]
     fn with_byte(mut self, byte: u8) -> Self
         requires { self.length < 8 }
         ensures { result ≡ adding self (byte ∷ []) }
@@ -54,6 +49,7 @@ impl Sequence {
     }
 
     // E0 where the code has it.
+    #[tactic(auto, unfolding(crate::specs::Codes::prefix, crate::specs::Sequences::adding))]
     fn with_prefix(self, code: u16) -> Self
         requires { self.length < 8 }
         ensures { result ≡ adding self (prefix code) }
@@ -65,6 +61,7 @@ impl Sequence {
     }
 
     // What a code sends when its key goes down.
+    #[tactic(auto, using(crate::proofs::Adding::adding_append, crate::proofs::Adding::adding_length, crate::proofs::Lengths::prefix_short), unfolding(crate::specs::Codes::make_of))]
     pub fn with_make(self, code: u16) -> Self
         requires { self.length ≤ 6 }
         ensures { result ≡ adding self (make_of code) }
@@ -73,6 +70,7 @@ impl Sequence {
     }
 
     // What a code sends when its key comes up.
+    #[tactic(auto, using(crate::proofs::Adding::adding_append, crate::proofs::Adding::adding_length, crate::proofs::Lengths::prefix_short), unfolding(crate::specs::Codes::break_of))]
     pub fn with_break(self, set: u8, code: u16) -> Self
         requires { self.length ≤ 5 }
         ensures { result ≡ adding self (break_of set code) }

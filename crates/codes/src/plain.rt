@@ -8,51 +8,31 @@ use crate::{Action, Sequence};
 use keys::Table;
 
 // The make of a code and no more.
+#[tactic(auto, unfolding(crate::specs::Sequences::holding, crate::specs::Codes::make_of, crate::specs::Codes::prefix))]
 fn make_of(code: u16) -> Sequence
     ensures { result ≡ holding (make_of code) }
 {
     let high = (code / 256) as u8;
     let low = (code % 256) as u8;
     if high == 0 {
-        return Sequence {
-            bytes: [low, 0, 0, 0, 0, 0, 0, 0],
-            length: 1,
-        };
+        return Sequence::of([low]);
     }
-    Sequence {
-        bytes: [high, low, 0, 0, 0, 0, 0, 0],
-        length: 2,
-    }
+    Sequence::of([high, low])
 }
 
 // The break of a code and no more.
+#[tactic(auto, unfolding(crate::specs::Sequences::holding, crate::specs::Codes::break_of, crate::specs::Codes::prefix))]
 fn break_of(set: u8, code: u16) -> Sequence
     ensures { result ≡ holding (break_of set code) }
 {
     let high = (code / 256) as u8;
     let low = (code % 256) as u8;
     let top = (code % 128 + 128) as u8;
-    if high == 0 {
-        if set == 1 {
-            return Sequence {
-                bytes: [top, 0, 0, 0, 0, 0, 0, 0],
-                length: 1,
-            };
-        }
-        return Sequence {
-            bytes: [0xf0, low, 0, 0, 0, 0, 0, 0],
-            length: 2,
-        };
-    }
-    if set == 1 {
-        return Sequence {
-            bytes: [high, top, 0, 0, 0, 0, 0, 0],
-            length: 2,
-        };
-    }
-    Sequence {
-        bytes: [high, 0xf0, low, 0, 0, 0, 0, 0],
-        length: 3,
+    match (high, set) {
+        (0, 1) => Sequence::of([top]),
+        (0, _) => Sequence::of([0xf0, low]),
+        (_, 1) => Sequence::of([high, top]),
+        _ => Sequence::of([high, 0xf0, low]),
     }
 }
 

@@ -2,16 +2,13 @@
 ghost use Rattle.std.specs.Prelude.{◌≡◌};
 ghost use Rattle.codes.specs.Codes.{has_code, sends_release, may_repeat};
 
-use keys::{FIRST_MEDIA, PAUSE};
+use keys::{FIRST_MEDIA, MAKE_BREAK, PAUSE, TYPEMATIC, TYPEMATIC_MAKE_BREAK};
 
 // The key has a code in the set. By its number and not by the table: most who ask have none at hand, and ask to do without one.
 pub fn has_code(set: u8, key: u8) -> bool
     ensures { result ≡ has_code set key }
 {
-    if set != 3 {
-        return true;
-    }
-    key < FIRST_MEDIA
+    set != 3 || key < FIRST_MEDIA
 }
 
 // A release is sent.
@@ -19,13 +16,7 @@ pub fn has_code(set: u8, key: u8) -> bool
 pub fn sends_release(set: u8, kind: u8) -> bool
     ensures { result ≡ sends_release set kind }
 {
-    if set != 3 {
-        return true;
-    }
-    if kind == keys::MAKE_BREAK {
-        return true;
-    }
-    kind == keys::TYPEMATIC_MAKE_BREAK
+    set != 3 || kind == MAKE_BREAK || kind == TYPEMATIC_MAKE_BREAK
 }
 
 // A key of this type repeats while it is held.
@@ -33,17 +24,5 @@ pub fn sends_release(set: u8, kind: u8) -> bool
 pub fn may_repeat(set: u8, key: u8, kind: u8) -> bool
     ensures { result ≡ may_repeat set key kind }
 {
-    if key == PAUSE {
-        return false;
-    }
-    if set != 3 {
-        return true;
-    }
-    if FIRST_MEDIA <= key {
-        return false;
-    }
-    if kind == keys::TYPEMATIC {
-        return true;
-    }
-    kind == keys::TYPEMATIC_MAKE_BREAK
+    key != PAUSE && has_code(set, key) && (set != 3 || kind == TYPEMATIC || kind == TYPEMATIC_MAKE_BREAK)
 }

@@ -7,9 +7,10 @@ use native.Mathlib.Omega.{arith}
 use borrow.Author.Tests.{leb-true}
 use lib.Dec.{leb, ltb, eqb}
 use lib.ListN.{length}
-use Rattle.std.specs.Prelude.{Ok, Err}
+use Rattle.std.specs.Prelude.{Result, Ok, Err}
 use Rattle.basics.specs.Choice.{pick, both}
-use Rattle.encoder.specs.declared.Encoded.TheVariants.{Written, BadChoice, ShortOutput}
+use Rattle.encoder.specs.declared.EncodeError.{EncodeError}
+use Rattle.encoder.specs.declared.EncodeError.TheVariants.{BadChoice, ShortOutput}
 use Rattle.encoder.specs.Encoder.{action_of, allowed, asked, encoded_of}
 use Rattle.codes.proofs.Lengths.{encode_short}
 use Rattle.reader.specs.declared.ReadError.TheVariants.{BadState, BadSet}
@@ -19,11 +20,11 @@ use Rattle.roundtrip.proofs.OnlyItsOwn.{next_is_a_state}
 
 -- At most eight bytes are written.
 pub count_small : (set key event type modifiers lock : ℕ) (out : List ℕ) (count : ℕ)
-    → Written count ≡ encoded_of set key event type modifiers lock out → count ≤ 8
+    → Ok count ≡ encoded_of set key event type modifiers lock out → count ≤ 8
 unfolding encoded_of asked
 count_small set key event type modifiers lock out count e = go (allowed set key event type modifiers lock) (ltb (length out) 8) e
   where
-    go : (a b : Bool) → Written count ≡ pick a (pick b ShortOutput (Written (length (asked set key event type modifiers lock)))) BadChoice → count ≤ 8
+    go : (a b : Bool) → ◌≡◌ {A = Result ℕ EncodeError} (Ok count) (pick a (pick b (Err ShortOutput) (Ok (length (asked set key event type modifiers lock)))) (Err BadChoice)) → count ≤ 8
     go true true w = cc
     go true false w =
         let same : count ≡ length (asked set key event type modifiers lock) = cc in

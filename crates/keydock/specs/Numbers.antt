@@ -4,8 +4,8 @@ use Rattle.std.specs.Prelude.{ℕ, ◌+◌, ◌*◌, ℤ, pos, get_or, unwrap_or
 use Rattle.basics.specs.Said.{minus}
 use Rattle.frames.specs.declared.FrameError.{FrameError}
 use Rattle.frames.specs.declared.FrameError.TheVariants.{Broken, TooLarge}
-use Rattle.encoder.specs.declared.Encoded.{Encoded}
-use Rattle.encoder.specs.declared.Encoded.TheVariants.{Written, BadChoice, ShortOutput}
+use Rattle.encoder.specs.declared.EncodeError.{EncodeError}
+use Rattle.encoder.specs.declared.EncodeError.TheVariants.{BadChoice, ShortOutput}
 use Rattle.reader.specs.declared.Event.{Event}
 use Rattle.reader.specs.declared.Answer.{Answer}
 use Rattle.reader.specs.declared.Press.{Press}
@@ -21,10 +21,10 @@ unpacked_number (Err Broken) = minus 256
 unpacked_number (Err TooLarge) = minus (frames.unpacked_says (Err TooLarge)).number
 
 -- A key encoded: how many bytes were written, or minus the refusal.
-abbrev pub encoded_number : Encoded → ℤ
-encoded_number (Written count) = pos count
-encoded_number BadChoice = minus (encoder.encoded_says BadChoice).number
-encoded_number ShortOutput = minus (encoder.encoded_says ShortOutput).number
+abbrev pub encoded_number : Result ℕ EncodeError → ℤ
+encoded_number (Ok count) = pos count
+encoded_number (Err BadChoice) = minus (encoder.encoded_says (Err BadChoice)).number
+encoded_number (Err ShortOutput) = minus (encoder.encoded_says (Err ShortOutput)).number
 
 -- What an event says: its place in the list of events is the first of its values, and its key, if it has one, the second.
 abbrev pub event_number : Event → ℕ

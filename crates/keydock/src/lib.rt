@@ -9,7 +9,7 @@ ghost use Rattle.reader.specs.Reader.{answer_of, error_says, press_of};
 ghost use Rattle.basics.specs.Said.{minus};
 ghost use Rattle.keydock.specs.Numbers.{unpacked_number, encoded_number, event_number, key_of, answer_number, press_number};
 
-use encoder::Encoded;
+use encoder::EncodeError;
 use frames::FrameError;
 use reader::{Event, ReadError};
 
@@ -47,9 +47,9 @@ pub fn keydock_key_codes(
     ensures output { out.new ≡ output_of set key event kind modifiers lock out.old }
 {
     match encoder::encode(set, key, event, kind, modifiers, lock, out) {
-        Encoded::Written(count) => count as i32,
-        Encoded::BadChoice => -7,
-        Encoded::ShortOutput => -6,
+        Ok(count) => count as i32,
+        Err(EncodeError::BadChoice) => -7,
+        Err(EncodeError::ShortOutput) => -6,
     }
 }
 
