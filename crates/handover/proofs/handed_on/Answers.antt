@@ -3,12 +3,10 @@ use Prim.Native.Nat.{◌+◌}
 use native.Mathlib.Omega.{arith}
 use borrow.Author.Rules.{rules}
 use lib.ListN.{length}
-use Rattle.codes.specs.declared.Action.TheVariants.{Release}
 use Rattle.queue.proofs.Meaning.{tidy_short}
 use Rattle.record.specs.Views.{keys_with}
 use Rattle.range.proofs.Ranges.{good_keys_queue}
 use Rattle.sending.specs.Sending.{sends}
-use Rattle.sending.proofs.Sent.{sequence_short}
 use Rattle.keying.specs.Changes.{keys_from}
 use Rattle.keying.specs.Handover.{handed_with}
 use Rattle.keying.proofs.Changes.{keys_from_same}
@@ -29,7 +27,7 @@ pub fits-requires : goal.fits-requires
 unfolding sends
 fits-requires c =
     let k = keys_from c.loop-key.held c.loop-key.bytes c.loop-key.after in
-    (tidy_short k.queue (good_keys_queue k c.loop-key.invariant.1.good), sequence_short k c.args.mode _ _ Release _ c.bytes_of-sequence.ensures)
+    tidy_short k.queue (good_keys_queue k c.loop-key.invariant.1.good)
 
 pub returns-then-not-fits : goal.returns-then-not-fits
 unfolding sends
@@ -44,7 +42,7 @@ pub release_with-after-requires : goal.release_with-after-requires
 unfolding sends
 release_with-after-requires c =
     let k = keys_from c.loop-key.held c.loop-key.bytes c.loop-key.after in
-    record { keys = c.loop-key.invariant.1.good; number = omega arith; short = sequence_short k c.args.mode _ _ Release _ c.bytes_of-sequence.ensures }
+    record { keys = c.loop-key.invariant.1.good; number = omega arith }
 
 pub loop-key-preserved : goal.loop-key-preserved
 unfolding sends

@@ -12,7 +12,7 @@ use Rattle.handover.proofs.release_with.Goals as goal
 pub push-requires : goal.push-requires
 push-requires c =
     let a = c.args in
-    record { tidied = good_keys_queue (keys_from a.held.now a.bytes.now a.rest) c.requires.keys; short = c.requires.short }
+    good_keys_queue (keys_from a.held.now a.bytes.now a.rest) c.requires.keys
 
 pub overflow_cast-after : goal.overflow_cast-after
 overflow_cast-after c =

@@ -10,10 +10,9 @@ use Rattle.queue.proofs.Pushing.{pushed_alone}
 use Rattle.queue.proofs.alone.Goals as goal
 
 pub pushed-requires : goal.pushed-requires
-pushed-requires c = record { tidied = ap tidy c.empty.ensures ∙ tidy-queue_of [] (omega arith); short = c.requires }
+pushed-requires c = ap tidy c.empty.ensures ∙ tidy-queue_of [] (omega arith)
 
 pub returns : goal.returns
 returns c =
-    let s = c.args.sequence in
-    let places : length s.bytes ≡ 8 = search rules in
-    c.pushed.ensures ∙ pushed_alone _ s 0 c.empty.ensures c.requires places
+    let places : length c.sequence.inside.bytes ≡ 8 = search rules in
+    c.pushed.ensures ∙ rw (← c.sequence.view_is) (pushed_alone _ _ 0 c.empty.ensures c.sequence.invariant places)

@@ -6,7 +6,7 @@ use lib.Seq.{paste}
 use Rattle.queue.proofs.pushed.Given as goal
 
 abbrev pub invariant-loop-i : goal.invariant-loop-i
-invariant-loop-i l = (l.i ≤ l.n) × (l.after.bytes ≡ paste l.initial.after.bytes l.at l.sequence.bytes l.i)
+invariant-loop-i l = (l.i ≤ l.n) × (l.after.bytes ≡ paste l.initial.after.bytes l.at l.sequence-inside.bytes l.i)
 
 abbrev pub decreases-loop-i : goal.decreases-loop-i
 decreases-loop-i l = l.n - l.i

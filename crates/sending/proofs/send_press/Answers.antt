@@ -8,7 +8,7 @@ use Rattle.queue.specs.Queues.{queue_with}
 use Rattle.record.specs.Views.{keys}
 use Rattle.record.specs.Held.{modifiers_of}
 use Rattle.sending.specs.Sending.{num_lock, sends}
-use Rattle.sending.proofs.Sent.{sequence_short, sequence_is}
+use Rattle.sending.proofs.Sent.{sequence_is}
 use Rattle.sending.proofs.Silence.{press_some, past_full, nothing_queued, no_room_marks, pushed_queues}
 use Rattle.sending.proofs.send_press.Goals as goal
 
@@ -31,11 +31,7 @@ returns-then-at-eq16 c =
     (sym c.has_code.ensures ∙ c.if-not-has_code.false)))
 
 pub push-requires : goal.push-requires
-unfolding sends
-push-requires c =
-    let a = c.args in
-    let k = keys a.held.now (queue_with a.bytes.now a.at) 0 0 in
-    record { tidied = c.requires.tidied; short = sequence_short k a.mode a.kind a.key Press _ c.bytes_in-sequence.ensures }
+push-requires c = c.requires.tidied
 
 pub returns : goal.returns
 unfolding sends

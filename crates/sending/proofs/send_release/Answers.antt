@@ -7,7 +7,7 @@ use Rattle.record.specs.Held.{modifiers_of}
 use Rattle.queue.proofs.Meaning.{tidy_short}
 use Rattle.range.proofs.Ranges.{good_mode_set}
 use Rattle.sending.specs.Sending.{num_lock, sends}
-use Rattle.sending.proofs.Sent.{sequence_short, sequence_is}
+use Rattle.sending.proofs.Sent.{sequence_is}
 use Rattle.sending.proofs.Silence.{release_none, release_long, little_room, too_long, nothing_queued, no_room_marks, pushed_queues}
 use Rattle.sending.proofs.send_release.Goals as goal
 
@@ -36,11 +36,7 @@ returns-then-at-shortest_release c =
     (too_long a.mode.set _ _ _ least long c.if-at-shortest_release.true)
 
 pub push-requires : goal.push-requires
-unfolding sends
-push-requires c =
-    let a = c.args in
-    let k = keys a.held.now (queue_with a.bytes.now a.at) 0 0 in
-    record { tidied = c.requires.tidied; short = sequence_short k a.mode a.kind a.key Release _ c.bytes_in-sequence.ensures }
+push-requires c = c.requires.tidied
 
 pub returns : goal.returns
 unfolding sends

@@ -1,12 +1,10 @@
 -- `keying::repeating::repeat` meets its contract: at each return the tests so far decide what the definition gives. Assumes nothing.
 use mathlib.Core.Path.{ap}
 use native.Mathlib.Omega.{arith}
-use Rattle.codes.specs.declared.Action.TheVariants.{Repeat}
 use Rattle.record.specs.Views.{keys_of}
 use Rattle.record.specs.Parts.{with_keys}
 use Rattle.range.proofs.Ranges.{good_keys_repeating}
 use Rattle.sending.specs.Sending.{sends}
-use Rattle.sending.proofs.Sent.{sequence_short}
 use Rattle.keying.proofs.Due.{repeats_none, repeats_later, repeats_no_more, repeats_lost, repeats_sent}
 use Rattle.keying.proofs.repeating.repeat.Goals as goal
 
@@ -27,12 +25,6 @@ pub returns-then-not-may_repeat : goal.returns-then-not-may_repeat
 returns-then-not-may_repeat c =
     let d = c.args.dock.now in
     ap (with_keys d) (repeats_no_more (keys_of d) _ _ _ c.if-key-eq0.false c.if-dock-ne0.false _ c.may_repeat.ensures c.if-not-may_repeat.true)
-
-pub alone-dock-requires : goal.alone-dock-requires
-unfolding sends
-alone-dock-requires c =
-    let d = c.args.dock.now in
-    sequence_short (keys_of d) d.rest.mode _ _ Repeat _ c.bytes_of-sequence.ensures
 
 pub returns-then-quiet : goal.returns-then-quiet
 unfolding sends
