@@ -1,4 +1,4 @@
--- A record in its range stays in its range, whatever is commanded. Assumes nothing.
+-- All that is no array stays in its range, whatever is commanded and whatever the map is. Assumes nothing.
 use mathlib.Core.Path.{◌≡◌, refl}
 use mathlib.Core.Bool.{Bool, true, false}
 use mathlib.Core.List.{List, [], ◌∷◌}
@@ -14,10 +14,11 @@ use Rattle.replies.specs.Replies.{replies_of}
 use Rattle.queue.proofs.Meaning.{tidy-queue_of}
 use Rattle.replies.proofs.ReplyMeaning.{tidy-replies_of}
 use Rattle.record.specs.declared.Dock.{Dock}
-use Rattle.record.specs.Power.{default_types, default_rate}
+use Rattle.record.specs.Power.{default_types, default_rate, fresh_with}
 use Rattle.record.specs.Views.{keys_of}
-use Rattle.range.specs.Range.{takes_value, good_waiting, in_range}
-use Rattle.range.proofs.Ranges.{good_mode_lem, good_mode_set, good_mode_rate, good_mode_indicators, good_keys_with_queue, good_keys_with_repeat, in_range_map, in_range_keys, in_range_mode, in_range_replies, in_range_with_keys, in_range_with_types, in_range_with_mode, in_range_with_replies, in_range_with_waiting, in_range_with_scanning}
+use Rattle.record.specs.Parts.{with_map}
+use Rattle.range.specs.Range.{takes_value, good_waiting, good_rest, in_range}
+use Rattle.range.proofs.Ranges.{alone_in_range, in_range_rest, good_mode_lem, good_mode_set, good_mode_rate, good_mode_indicators, good_keys_with_queue, good_keys_with_repeat, in_range_map, in_range_keys, in_range_mode, in_range_replies, in_range_with_keys, in_range_with_types, in_range_with_mode, in_range_with_replies, in_range_with_waiting, in_range_with_scanning}
 use Rattle.range.proofs.PowerOn.{fresh_in_range}
 use Rattle.commands.specs.Commands.{replying, cleared, unrepeated, quietened, with_set, with_rate, defaulted, typed, restarted, obeyed, reply_to, commanded}
 use Rattle.commands.proofs.Ladder.{by_command}
@@ -79,21 +80,40 @@ module _ (d : Dock) (h : in_range d ≡ true) where
   typed_in_range : (kind : ℕ) → in_range (typed kind d) ≡ true
   typed_in_range kind = in_range_with_types (cleared d) (cleared_in_range d h) (replicate (suc last_key) kind)
 
-  -- A command, row by row.
-  obeyed_in_range : (byte : ℕ) → in_range (obeyed byte d) ≡ true
-  obeyed_in_range byte =
-      by_command InRange byte d
-      (λ f0. rate_in_range (quietened d) quietened_in_range default_rate (omega arith))
-      (λ f4. in_range_with_scanning (quietened d) quietened_in_range true)
-      (λ f5. in_range_with_scanning (defaulted d) defaulted_in_range false)
-      (λ f6. defaulted_in_range)
-      (λ low high. typed_in_range (byte - 0xf7))
-      (λ low high. cleared_in_range d h)
-      (λ ff. restarted_in_range d h)
-      (λ none. h)
+-- A record with the map of another, and in its range but for that.
+pub record Kept (d e : Dock) : Type 0 where
+  pub map : e.map ≡ d.map
+  pub rest : good_rest e.rest ≡ true
 
-  pub commanded_in_range : (byte : ℕ) → in_range (commanded byte d) ≡ true
+pub kept : (d e : Dock) → e.map ≡ d.map → in_range (with_map e []) ≡ true → Kept d e
+kept d e map good = record { map = map; rest = in_range_rest _ good }
+
+pub kept_in_range : (d e : Dock) → in_range d ≡ true → Kept d e → in_range e ≡ true
+unfolding in_range
+kept_in_range d e h k = rw (k.map, k.rest, in_range_map d h)
+
+module _ (d : Dock) (h : good_rest d.rest ≡ true) where
+  bare : in_range (with_map d []) ≡ true
+  bare = alone_in_range d.rest h _ _ _ _
+
+  -- A command, row by row.
+  obeyed_kept : (byte : ℕ) → Kept d (obeyed byte d)
+  unfolding fresh_with
+  obeyed_kept byte =
+      by_command (Kept d) byte d
+      (λ f0. kept d _ refl (rate_in_range (quietened (with_map d [])) (quietened_in_range _ bare) default_rate (omega arith)))
+      (λ f4. kept d _ refl (in_range_with_scanning (quietened (with_map d [])) (quietened_in_range _ bare) true))
+      (λ f5. kept d _ refl (in_range_with_scanning (defaulted (with_map d [])) (defaulted_in_range _ bare) false))
+      (λ f6. kept d _ refl (defaulted_in_range _ bare))
+      (λ low high. kept d _ refl (typed_in_range _ bare (byte - 0xf7)))
+      (λ low high. kept d _ refl (cleared_in_range _ bare))
+      (λ ff. kept d _ refl (restarted_in_range _ bare))
+      (λ none. kept d d refl bare)
+
+  pub commanded_kept : (byte : ℕ) → Kept d (commanded byte d)
   unfolding commanded
-  commanded_in_range byte =
-      let waits = in_range_with_waiting (obeyed byte d) (obeyed_in_range byte) _ (waits_well byte (takes_value byte) refl) in
-      replying_in_range _ waits (reply_to byte) (reply_short byte)
+  commanded_kept byte =
+      let done = obeyed_kept byte in
+      let good = alone_in_range _ done.rest (obeyed byte d).closed _ _ _ in
+      let waits = in_range_with_waiting _ good _ (waits_well byte (takes_value byte) refl) in
+      kept d _ done.map (replying_in_range _ waits (reply_to byte) (reply_short byte))

@@ -1,5 +1,5 @@
 -- A record in its range stays in its range, whatever is called, and refused or not. Assumes nothing.
-use mathlib.Core.Path.{◌≡◌, refl}
+use mathlib.Core.Path.{◌≡◌}
 use mathlib.Core.Bool.{true}
 use mathlib.Core.List.{List, [], ◌∷◌}
 use Prim.Native.Nat.{ℕ}
@@ -12,7 +12,7 @@ use Rattle.contacts.specs.Counts.{unseen, counted_of}
 use Rattle.commands.specs.Commands.{replying}
 use Rattle.host.specs.Values.{took_byte}
 use Rattle.commands.proofs.InRange.{InRange, replying_in_range}
-use Rattle.host.proofs.InRange.{took_in_range}
+use Rattle.host.proofs.InRange.{took_kept, took_in_range}
 use Rattle.keying.specs.Handover.{handed_over}
 use Rattle.keying.specs.Repeat.{ticked}
 use Rattle.keying.proofs.Good.{turns_good, ticked_good, repeated_good, handed_good}
@@ -23,8 +23,8 @@ use Rattle.replies.proofs.ReplyMeaning.{popped_replies_tidy}
 use Rattle.record.specs.Views.{keys_of, contacts_of, with_queue, with_repeat}
 use Rattle.record.specs.Parts.{with_keys, with_contacts, with_replies, with_map}
 use Rattle.record.specs.declared.Dock.{Dock}
-use Rattle.range.specs.Range.{in_range}
-use Rattle.range.proofs.Ranges.{good_keys_queue, good_keys_with_queue, good_keys_with_repeat, in_range_map, in_range_keys, in_range_mode, in_range_replies, in_range_with_map, in_range_with_contacts, in_range_with_keys, in_range_with_replies, in_range_with_handover, in_range_with_given}
+use Rattle.range.specs.Range.{good_rest, in_range}
+use Rattle.range.proofs.Ranges.{alone_in_range, in_range_rest, good_keys_queue, good_keys_with_queue, good_keys_with_repeat, in_range_map, in_range_keys, in_range_mode, in_range_replies, in_range_with_map, in_range_with_contacts, in_range_with_keys, in_range_with_replies, in_range_with_handover, in_range_with_given}
 use Rattle.dock.specs.Closing.{closing}
 use Rattle.dock.specs.Scan.{counting, changed, quiet, repeating, heard_scan, scan_of}
 use Rattle.dock.specs.Swap.{opened, remapped, swap_of}
@@ -88,23 +88,29 @@ key_byte_in_range d h =
     let tidied = popped_tidy d.rest.outgoing.queue (good_keys_queue (keys_of d) good) in
     in_range_with_keys d h _ (good_keys_with_queue (keys_of d) good (without_oldest d.rest.outgoing.queue) tidied)
 
--- Which byte was given makes no difference to that.
-module _ (d : Dock) (h : in_range d ≡ true) (byte : ℕ) (kept : Dock) where
-  pub reply_leaves_range : (rest : Replies) → rest ≡ replies_behind d.rest.replies → kept ≡ remembering (with_replies d rest) byte
-      → in_range kept ≡ true
-  unfolding remembering
-  reply_leaves_range rest e k =
-      rw (k, e) (in_range_with_given (with_replies d (replies_behind d.rest.replies)) (reply_in_range d h) _)
-
-  pub key_byte_leaves_range : (rest : Queue) → rest ≡ without_oldest d.rest.outgoing.queue → kept ≡ remembering (with_keys d (with_queue (keys_of d) rest)) byte
-      → in_range kept ≡ true
-  unfolding remembering
-  key_byte_leaves_range rest e k =
-      rw (k, e) (in_range_with_given (with_keys d (with_queue (keys_of d) (without_oldest d.rest.outgoing.queue))) (key_byte_in_range d h) _)
+remembering_in_range : (d : Dock) → in_range d ≡ true → (byte : ℕ) → in_range (remembering d byte) ≡ true
+unfolding remembering
+remembering_in_range d h byte = in_range_with_given d h _
 
 pub read_in_range : (d : Dock) → in_range d ≡ true → in_range (read_of d).dock ≡ true
 read_in_range d h =
-    read_keeps InRange closing_in_range d h (λ byte. key_byte_leaves_range d h byte _ _ refl refl) (λ byte. reply_leaves_range d h byte _ _ refl refl)
+    read_keeps InRange closing_in_range d h (λ byte. remembering_in_range _ (key_byte_in_range d h) byte)
+    (λ byte. remembering_in_range _ (reply_in_range d h) byte)
+
+-- The same as the code has it, whatever the map is.
+module _ (d : Dock) (h : good_rest d.rest ≡ true) (byte : ℕ) (kept : Dock) where
+  bare : in_range (with_map d []) ≡ true
+  bare = alone_in_range d.rest h _ _ _ _
+
+  pub reply_leaves_range : (behind : Replies) → behind ≡ replies_behind d.rest.replies → kept ≡ remembering (with_replies d behind) byte
+      → good_rest kept.rest ≡ true
+  unfolding remembering
+  reply_leaves_range behind e k = rw (k, e) (in_range_rest _ (remembering_in_range _ (reply_in_range (with_map d []) bare) byte))
+
+  pub key_byte_leaves_range : (behind : Queue) → behind ≡ without_oldest d.rest.outgoing.queue
+      → kept ≡ remembering (with_keys d (with_queue (keys_of d) behind)) byte → good_rest kept.rest ≡ true
+  unfolding remembering
+  key_byte_leaves_range behind e k = rw (k, e) (in_range_rest _ (remembering_in_range _ (key_byte_in_range (with_map d []) bare) byte))
 
 -- A swap.
 opened_in_range : (d : Dock) (map : List ℕ) → in_range d ≡ true → all_up_to last_key map ≡ true → in_range (opened d map) ≡ true
@@ -126,13 +132,13 @@ swap_leaves_range d map h g next e = rw e (remapped_in_range d map h g)
 pub swap_in_range : (d : Dock) (map : List ℕ) → in_range d ≡ true → in_range (swap_of d map).dock ≡ true
 swap_in_range d map h = swap_keeps InRange closing_in_range d h map (λ long good. remapped_in_range d map h good)
 
--- A frame from the host.
-module _ (d : Dock) (h : in_range d ≡ true) (next : Dock) where
-  pub broken_leaves_range : next ≡ replying (0xfe ∷ []) d → in_range next ≡ true
-  broken_leaves_range e = rw e (replying_in_range d h (0xfe ∷ []) (omega arith))
+-- A frame from the host, whatever the map is.
+module _ (d : Dock) (h : good_rest d.rest ≡ true) (next : Dock) where
+  pub broken_leaves_range : next ≡ replying (0xfe ∷ []) d → good_rest next.rest ≡ true
+  broken_leaves_range e = rw e (in_range_rest _ (replying_in_range (with_map d []) (alone_in_range d.rest h _ _ _ _) (0xfe ∷ []) (omega arith)))
 
-  pub byte_leaves_range : (byte : ℕ) → next ≡ took_byte byte d → in_range next ≡ true
-  byte_leaves_range byte e = rw e (took_in_range d h byte)
+  pub byte_leaves_range : (byte : ℕ) → next ≡ took_byte byte d → good_rest next.rest ≡ true
+  byte_leaves_range byte e = rw e (took_kept d h byte).rest
 
 pub frame_in_range : (d : Dock) (number : ℕ) → in_range d ≡ true → in_range (frame_of d number).dock ≡ true
 frame_in_range d number h =

@@ -1,75 +1,43 @@
 // The next byte for the host.
-ghost use Rattle.std.specs.Prelude.{◌≡◌, true, ◌≤◌};
-ghost use Rattle.record.specs.declared.Dock.{Dock};
-ghost use Rattle.record.specs.InPlace.{RestAfter, kept, HeldGive};
+ghost use Rattle.std.specs.Prelude.{◌≡◌, true, Ok};
 ghost use Rattle.range.specs.Range.{good_rest};
 ghost use Rattle.dock.specs.Answers.{taken};
-ghost use Rattle.dock.specs.Read.{remembering, reply_taken, key_byte_taken, read};
+ghost use Rattle.dock.specs.Read.{remembering, read};
 
+use dock::Given;
 use dock::closing::close_in_place;
-use dock::{Given, TakenRest};
-use record::{Held, Rest, Types};
+use record::Dock;
 
 // A byte was given.
-fn remember(rest: Rest, byte: u8) -> Rest
-    ensures { RestAfter (λ (d : Dock). remembering d byte) rest result }
+#[tactic(auto, unfolding(dock::specs::Read::remembering))]
+fn remember(dock: &mut Dock, byte: u8)
+    ensures { dock.new ≡ remembering dock.old byte }
 {
-    if byte == hostbytes::RESEND {
-        return rest;
-    }
-    let mut after = rest;
-    after.given = byte;
-    after
-}
-
-// The oldest reply.
-fn take_reply(held: &mut Held, types: &Types, rest: Rest) -> TakenRest
-    requires { record { range : good_rest rest ≡ true; some : 1 ≤ rest.replies.length } }
-    ensures { HeldGive (taken result.given) reply_taken held (kept types) rest result.rest }
-{
-    let replies = rest.replies;
-    let byte = replies.bytes[0];
-    let mut after = rest;
-    after.replies = replies::popped(replies);
-    TakenRest {
-        given: Given::Reply(byte),
-        rest: close_in_place(held, types, remember(after, byte)),
-    }
-}
-
-// The oldest key byte.
-fn take_key_byte(held: &mut Held, types: &Types, rest: Rest) -> TakenRest
-    requires { record { range : good_rest rest ≡ true; some : 1 ≤ rest.outgoing.queue.length } }
-    ensures { HeldGive (taken result.given) key_byte_taken held (kept types) rest result.rest }
-{
-    let mut outgoing = rest.outgoing;
-    let queue = outgoing.queue;
-    let byte = queue.bytes[0];
-    outgoing.queue = queue::popped(queue);
-    let mut after = rest;
-    after.outgoing = outgoing;
-    TakenRest {
-        given: Given::KeyByte(byte),
-        rest: close_in_place(held, types, remember(after, byte)),
+    if byte != hostbytes::RESEND {
+        dock.rest.given = byte;
     }
 }
 
 // The read call in place, of a record in its range, whatever the map and the contacts are.
-pub fn read_in_place(held: &mut Held, types: &Types, rest: Rest) -> TakenRest
-    requires { good_rest rest ≡ true }
-    ensures { HeldGive (taken result.given) read held (kept types) rest result.rest }
+#[tactic(auto, unfolding(dock::specs::Read::read))]
+pub fn read_in_place(dock: &mut Dock) -> Option<Given>
+    requires { good_rest dock.old.rest ≡ true }
+    ensures { taken (Ok result) dock.new ≡ read dock.old }
 {
-    let replies = rest.replies;
-    if replies.length != 0 {
-        return take_reply(held, types, rest);
+    if dock.rest.replies.length != 0 {
+        let byte = dock.rest.replies.bytes[0];
+        dock.rest.replies = replies::popped(dock.rest.replies);
+        remember(dock, byte);
+        close_in_place(dock);
+        return Some(Given::Reply(byte));
     }
-    let outgoing = rest.outgoing;
-    let queue = outgoing.queue;
-    if queue.length != 0 {
-        return take_key_byte(held, types, rest);
+    if dock.rest.outgoing.queue.length != 0 {
+        let byte = dock.rest.outgoing.queue.bytes[0];
+        dock.rest.outgoing.queue = queue::popped(dock.rest.outgoing.queue);
+        remember(dock, byte);
+        close_in_place(dock);
+        return Some(Given::KeyByte(byte));
     }
-    TakenRest {
-        given: Given::Nothing,
-        rest: close_in_place(held, types, rest),
-    }
+    close_in_place(dock);
+    None
 }
