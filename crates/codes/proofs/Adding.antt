@@ -4,7 +4,8 @@ use mathlib.Core.List.{List, [], ◌∷◌, ◌++◌, append-nil}
 use Prim.Native.Nat.{ℕ, suc, ◌+◌, ◌-◌, ◌≤◌}
 use native.Mathlib.Nat.{add-zero}
 use native.Mathlib.Omega.{arith}
-use lib.ListN.{length, take, replicate, length-append}
+use lib.ListN.{length, take, drop, replicate, length-append}
+use Rattle.std.proofs.lemmas.List.{drop-replicate}
 use lib.Seq.{append_snoc, set-append_seam, take-append_seam}
 use Rattle.codes.specs.declared.Sequence.{Sequence}
 use Rattle.codes.specs.Sequences.{holding, adding}
@@ -32,19 +33,13 @@ adding_holding l (b ∷ m) h =
     ap (λ (s : Sequence). adding s m) (one_held l b (omega arith))
     ∙ rw append_snoc at (adding_holding (l ++ b ∷ []) m (rw length-append (omega arith)))
 
--- The same, as the code meets it: what a call gives, from what it was given.
-pub joined : (s t r : Sequence) (l m : List ℕ) → t ≡ adding s l → r ≡ adding t m → r ≡ adding s (l ++ m)
-joined s t r l m d e = e ∙ rw d (adding_append l s m)
-
-pub filled : (s r : Sequence) (l : List ℕ) → length l ≤ 8 → s ≡ holding [] → r ≡ adding s l → r ≡ holding l
-filled s r l h d e = e ∙ rw d (adding_holding [] l (omega arith))
-
 pub none_held : (s : Sequence) → s ≡ holding [] → s.length ≡ 0
 unfolding holding
 none_held s e = rw e
 
-pub room : (s t : Sequence) (l : List ℕ) (n : ℕ) → length l ≤ n → t ≡ adding s l → t.length ≤ s.length + n
-room s t l n h e = rw (e, adding_length l s) (omega arith)
+-- Of eight zeros the last stand behind the bytes that are laid over the first.
+pub zeros_behind : (n : ℕ) → drop {A = ℕ} n (0 ∷ 0 ∷ 0 ∷ 0 ∷ 0 ∷ 0 ∷ 0 ∷ 0 ∷ []) ≡ replicate (8 - n) 0
+zeros_behind n = drop-replicate n 8 0
 
 -- For those who take a sequence apart: its length and its bytes.
 pub holding_length : (l : List ℕ) → (holding l).length ≡ length l

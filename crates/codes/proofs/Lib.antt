@@ -3,5 +3,4 @@ pub mod Adding
 pub mod AtOnce
 pub mod Coded
 pub mod Lengths
-pub mod PlainKeys
 pub mod OneForm

@@ -18,6 +18,7 @@ impl Sequence {
     }
 
     // These bytes.
+    #[tactic(auto, using(crate::proofs::Adding::zeros_behind), unfolding(crate::specs::Sequences::holding))]
     pub fn of<const N: usize>(bytes: [u8; N]) -> Self
         requires { N ≤ 8 }
         ensures { result ≡ holding bytes.entry }

@@ -37,6 +37,7 @@ fn break_of(set: u8, code: u16) -> Sequence
 }
 
 // The bytes that an action of such a key sends.
+#[tactic(auto, using(crate::proofs::OneForm::one_form, crate::proofs::OneForm::not_at_once, crate::proofs::OneForm::code_plain, crate::proofs::OneForm::nothing_after), unfolding(crate::specs::Codes::encode, crate::specs::Codes::bytes_of, crate::specs::Codes::before))]
 pub fn plain_sequence(table: &Table, set: u8, key: u8, action: Action, kind: u8) -> Sequence
     requires { has_forms set key ≡ false }
     ensures { (modifiers : ℕ) (lock : Bool) → result ≡ holding (encode set key action kind modifiers lock) }

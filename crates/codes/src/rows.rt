@@ -24,5 +24,7 @@ pub fn sends_release(set: u8, kind: u8) -> bool
 pub fn may_repeat(set: u8, key: u8, kind: u8) -> bool
     ensures { result ≡ may_repeat set key kind }
 {
-    key != PAUSE && has_code(set, key) && (set != 3 || kind == TYPEMATIC || kind == TYPEMATIC_MAKE_BREAK)
+    key != PAUSE
+        && has_code(set, key)
+        && (set != 3 || kind == TYPEMATIC || kind == TYPEMATIC_MAKE_BREAK)
 }

@@ -187,6 +187,7 @@ const KEYS: [[u16; 3]; LAST_KEY as usize] = [
 
 impl Table {
     // The whole table, for a caller to lay out once and lend. No other function names it: the check pays for each that does.
+    #[tactic(auto, unfolding(crate::specs::Keys::laid_out, crate::specs::Keys::rows))]
     pub fn new() -> Self
         ensures { result.rows ≡ laid_out }
     {
@@ -194,6 +195,7 @@ impl Table {
     }
 
     // The code of a key: the one place where an action looks into the table. A number that is no key has none.
+    #[tactic(auto, using(crate::proofs::Laws::no_key, crate::proofs::Laws::past_the_keys, crate::proofs::Laws::at_its_place), unfolding(crate::specs::Keys::code_in))]
     pub fn code(&self, set: u8, key: u8) -> u16
         ensures { result ≡ code_in set key }
     {
@@ -213,5 +215,8 @@ impl Table {
 pub fn mark_of(set: u32) -> u8
     ensures { result ≡ mark_of set }
 {
-    if set == 1 { 0xff } else { 0x00 }
+    match set {
+        1 => 0xff,
+        _ => 0x00,
+    }
 }
