@@ -7,6 +7,7 @@ use crate::reply;
 use hostbytes::{
     ACKNOWLEDGED, CHOOSE_SET, INDICATORS, KEY_TYPE, LAST_KEY_TYPE, RATE, RESEND, WHICH_SET,
 };
+use lookup::{Set, Set3};
 use record::Dock;
 
 // What a right value asks of the command that waits for it.
@@ -34,10 +35,10 @@ fn asked_of(command: u8, value: u8) -> Option<Asked>
         (CHOOSE_SET, WHICH_SET) => Some(Asked::WhichSet),
         (CHOOSE_SET, 1..=3) => Some(Asked::Set(value)),
         (RATE, 0..=127) => Some(Asked::Rate(value)),
-        (KEY_TYPE..=LAST_KEY_TYPE, _) => match lookup::in_set3(value) {
-            0 => None,
-            key => Some(Asked::KeyType(key, command - KEY_TYPE)),
-        },
+        (KEY_TYPE..=LAST_KEY_TYPE, _) => {
+            let key = Set3::key(value)?;
+            Some(Asked::KeyType(key, command - KEY_TYPE))
+        }
         _ => None,
     }
 }

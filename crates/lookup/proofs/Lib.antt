@@ -1,3 +1,4 @@
-pub mod Rows
 pub mod Small
 pub mod Own
+pub mod Entries
+pub mod Found

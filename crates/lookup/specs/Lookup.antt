@@ -1,5 +1,5 @@
 -- Which key has a code (docs/RULES.md, section 1). Assumes nothing.
-use Rattle.std.specs.Prelude.{ℕ, zero, suc, ◌+◌, ◌*◌, ◌/◌, ◌%◌, ◌^◌, true, false, List, [], ◌∷◌, eqb}
+use Rattle.std.specs.Prelude.{ℕ, suc, true, false, List, [], ◌∷◌, eqb, Option, Some, None}
 use Rattle.basics.specs.Choice.{pick}
 use Rattle.keys.specs.Keys.{Row, rows, row_code, no_code}
 
@@ -12,15 +12,6 @@ first_with set code key (r ∷ rest) = elim (eqb (row_code set r) code) [ true �
 unfoldable pub key_with : ℕ → ℕ → ℕ
 key_with set code = pick (eqb code no_code) 0 (first_with set code 1 rows)
 
--- The keys of so many codes from one on, in one number: a byte for each, the first the lowest.
-unfoldable pub keys_from : ℕ → ℕ → ℕ → ℕ
-keys_from set code zero = 0
-keys_from set code (suc n) = key_with set code + 256 * keys_from set (suc code) n
-
--- The row of a byte: the keys of the eight bytes that differ from it in their last three bits, each sent with `code` before it.
-unfoldable pub row_of : ℕ → ℕ → ℕ → ℕ
-row_of set code byte = keys_from set (code + 8 * (byte / 8)) 8
-
--- The entry of a byte in its row.
-abbrev pub entry_of : ℕ → ℕ → ℕ
-entry_of row byte = row / 2 ^ (8 * (byte % 8)) % 256
+-- A key as it is found: 0 is none.
+abbrev pub found : ℕ → Option ℕ
+found key = pick (eqb key 0) None (Some key)

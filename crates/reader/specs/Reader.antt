@@ -20,7 +20,12 @@ go_on state = record { state = state; event = More }
 abbrev pub ends : Event → Answer
 ends event = record { state = 0; event = event }
 
--- A key, if there is one, goes down or comes up.
+-- A key that is found goes down or comes up; where none is, the code is unknown.
+abbrev pub moves : Bool → Option ℕ → Event
+moves down None = Unknown
+moves down (Some key) = pick down (Pressed key) (Released key)
+
+-- The same of a key's number, 0 for none.
 abbrev pub key_moves : Bool → ℕ → Event
 key_moves down key = pick (eqb key 0) Unknown (pick down (Pressed key) (Released key))
 
@@ -85,13 +90,16 @@ in_set3 state byte =
     (pick (eqb state 2) (ends (key_moves false (key_with 3 byte)))
     (ends Unknown))
 
--- A byte in a state of a set: the overrun mark counts wherever it stands.
-unfoldable pub read_byte : ℕ → ℕ → ℕ → Answer
-read_byte set state byte =
-    pick (eqb byte (mark_of set)) (ends Overrun)
-    (pick (eqb set 1) (in_set1 state byte)
+-- A byte in a state of a set, which is 3 if it is not 1 or 2.
+abbrev pub in_set : ℕ → ℕ → ℕ → Answer
+in_set set state byte =
+    pick (eqb set 1) (in_set1 state byte)
     (pick (eqb set 2) (in_set2 state byte)
-    (in_set3 state byte)))
+    (in_set3 state byte))
+
+-- The same where the byte may be the overrun mark, which counts wherever it stands.
+unfoldable pub read_byte : ℕ → ℕ → ℕ → Answer
+read_byte set state byte = pick (eqb byte (mark_of set)) (ends Overrun) (in_set set state byte)
 
 -- The reader's answer: a state out of its range is refused first, then a set; neither moves the state.
 unfoldable pub answer_of : ℕ → ℕ → ℕ → Result Answer ReadError

@@ -2,18 +2,17 @@
 #![tactic(auto)]
 
 mod steps; // steps.rt: how a sequence goes on, and how it ends
+mod codes; // codes.rt: what the codes of sets 1 and 2 say
 mod set1; // set1.rt: the bytes of set 1
 mod set2; // set2.rt: the bytes of set 2
 mod set3; // set3.rt: the bytes of set 3
 
 ghost use Rattle.std.specs.Prelude.{◌≡◌};
+ghost use Rattle.keys.specs.Keys.{mark_of};
 ghost use Rattle.basics.specs.Said.{Answers};
-ghost use Rattle.reader.specs.Reader.{read_byte, answer_of, error_says, answer_says, answer_said, pressed_key, press_of};
+ghost use Rattle.reader.specs.Reader.{in_set, read_byte, answer_of, error_says, answer_says, answer_said, pressed_key, press_of};
 
-use keys::mark_of;
-use set1::read1;
-use set2::read2;
-use set3::read3;
+use lookup::{Set, Set1, Set2, Set3};
 use steps::end;
 
 // What a byte tells.
@@ -82,22 +81,30 @@ pub struct Press {
     pub key: Option<u8>,
 }
 
-// A byte in a state of a set.
-#[tactic(auto, unfolding(crate::specs::Reader::read_byte))]
-fn read_byte(set: u32, state: u32, byte: u8) -> Answer
-    ensures { result ≡ read_byte set state byte }
-{
-    if byte == mark_of(set) {
-        return end(Event::Overrun);
-    }
-    match set {
-        1 => read1(state, byte),
-        2 => read2(state, byte),
-        _ => read3(state, byte),
-    }
+// A set, by the sequences that the reader finds in it.
+trait Sequences: Set {
+    // The overrun mark.
+    fn mark() -> u8
+        ensures { result ≡ mark_of Self.number };
+
+    // A byte in a state, if it is not the mark.
+    fn read(state: u32, byte: u8) -> Answer
+        ensures { result ≡ in_set Self.number state byte };
 }
 
-// The reader: set 1 to 3, state 0 to 14 (0 to begin with, then what the answer before gave), and a byte.
+// A byte in a state of a set.
+#[tactic(auto, unfolding(crate::specs::Reader::read_byte))]
+fn read_byte<S: Sequences>(state: u32, byte: u8) -> Answer
+    ensures { result ≡ read_byte S.number state byte }
+{
+    if byte == S::mark() {
+        return end(Event::Overrun);
+    }
+    S::read(state, byte)
+}
+
+// The reader: set 1 to 3, state 0 to 14 (0 to begin with, then what the answer before gave), and a byte. The set is a number here, as it
+// is in the record and for C, and is looked at once.
 #[tactic(auto, unfolding(crate::specs::Reader::answer_of, crate::specs::Reader::answer_said))]
 pub fn read(set: u32, state: u32, byte: u8) -> Result<Answer, ReadError>
     ensures { Answers answer_says result (answer_of set state byte) (answer_said set state byte) }
@@ -106,7 +113,9 @@ pub fn read(set: u32, state: u32, byte: u8) -> Result<Answer, ReadError>
         return Err(ReadError::BadState);
     }
     match set {
-        1..=3 => Ok(read_byte(set, state, byte)),
+        1 => Ok(read_byte::<Set1>(state, byte)),
+        2 => Ok(read_byte::<Set2>(state, byte)),
+        3 => Ok(read_byte::<Set3>(state, byte)),
         _ => Err(ReadError::BadSet),
     }
 }
