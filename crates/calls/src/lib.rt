@@ -21,7 +21,7 @@ use swap::swap_in_place;
 use wire::frame::frame_in_place;
 use wire::read::read_in_place;
 
-// A record out of its range is refused.
+// A record out of its range is refused. A call asks by a line: a function that is handed the call to do would need a contract over it.
 fn check(dock: &Dock) -> Result<(), Refusal>
     ensures { result ≡ pick (in_range dock.now) (Ok tt) (Err BadRecord) }
 {

@@ -1,4 +1,5 @@
-// What each command does, and what it is answered with (docs/RULES.md, section 11).
+// What each command does, and what it is answered with (docs/RULES.md, section 11). Commands are bytes with names: an enum of them would be
+// the list in `obey` once more.
 #![tactic(auto)]
 
 mod answers; // answers.rt: the bytes that answer a command

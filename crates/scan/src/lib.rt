@@ -1,4 +1,5 @@
-// A scan of the panel, in place (docs/RULES.md, sections 5 and 6): the record is in its range.
+// A scan of the panel, in place (docs/RULES.md, sections 5 and 6): the record is lent, and in its range. The range is asked for and no
+// invariant of the record, because `calls` takes any record at all.
 #![tactic(auto)]
 
 ghost use Rattle.std.specs.Prelude.{◌≡◌, true};

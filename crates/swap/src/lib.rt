@@ -1,4 +1,4 @@
-// Another panel, in place (docs/RULES.md, section 8): the record is in its range.
+// Another panel, in place (docs/RULES.md, section 8): the record is lent, and in its range.
 #![tactic(auto)]
 
 ghost use Rattle.std.specs.Prelude.{◌≡◌, true};
