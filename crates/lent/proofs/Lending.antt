@@ -1,6 +1,6 @@
 -- The calls on lent bytes. Assumes nothing.
-use mathlib.Core.Path.{◌≡◌, refl, sym, ap, ◌∙◌}
-use mathlib.Core.Bool.{Bool, true, false, not}
+use mathlib.Core.Path.{◌≡◌, ap, ◌∙◌}
+use mathlib.Core.Bool.{true, false}
 use mathlib.Core.List.{List}
 use Prim.Native.Nat.{ℕ, ◌≤◌}
 use native.Mathlib.Omega.{arith}
@@ -8,10 +8,8 @@ use borrow.Author.Tests.{eq-eqb, ne_eqb}
 use lib.IntN.{pos}
 use lib.ListN.{length}
 use Rattle.basics.specs.Said.{minus}
-use Rattle.basics.proofs.Cases.{never}
 use Rattle.queue.specs.Queues.{queue_of}
 use Rattle.queue.proofs.Meaning.{tidy_short}
-use Rattle.record.specs.declared.Rest.{Rest}
 use Rattle.record.specs.declared.Dock.{Dock}
 use Rattle.record.specs.Views.{keys_of}
 use Rattle.record.specs.Power.{fresh_with, power_on}
@@ -22,25 +20,10 @@ use Rattle.range.proofs.Ranges.{good_keys_queue, in_range_keys}
 use Rattle.dock.specs.Calls.{Call, Scan, Swap, Frame, Read}
 use Rattle.dock.proofs.InRange.{scan_in_range, swap_in_range, frame_in_range, read_in_range}
 use Rattle.dock.proofs.Arrays.{scan_sized, swap_sized, frame_sized, read_sized, power_on_sized}
-use Rattle.layout.specs.Layout.{size, flag_of, rest_in, record_in, is_record, bytes_of}
-use Rattle.layout.proofs.Records.{record_in_range, record_sized}
+use Rattle.layout.specs.Layout.{size, flag_of, record_in, is_record, bytes_of}
+use Rattle.layout.proofs.Records.{record_size, record_in_range, record_sized}
 use Rattle.layout.proofs.RoundTrip.{record_back, bytes_are_record}
 use Rattle.lent.specs.Lent.{Done, done, number_for, bytes_after, power_number, power_bytes, indicators_number, scanning_number}
-
--- What the look at the bytes found.
-pub found_record : (l : List ℕ) (found : Bool) → found ≡ is_record l → not found ≡ false → is_record l ≡ true
-found_record l true e f = sym e
-found_record l false e f = never true refl f
-
-pub found_none : (l : List ℕ) (found : Bool) → found ≡ is_record l → not found ≡ true → is_record l ≡ false
-found_none l false e f = sym e
-found_none l true e f = never false f refl
-
-pub copy_in_range : (l : List ℕ) → is_record l ≡ true → (d : Dock) → d ≡ record_in l → in_range d ≡ true
-copy_in_range l h d b = ap in_range b ∙ record_in_range l h
-
-pub copy_sized : (l : List ℕ) → is_record l ≡ true → (d : Dock) → d ≡ record_in l → IsSized d
-copy_sized l h d b = rw b (record_sized l h)
 
 -- Every call leaves a record in its range, and its arrays with their sizes.
 done_in_range : (call : Call) (d : Dock) → in_range d ≡ true → in_range (done call d).dock ≡ true
@@ -55,28 +38,35 @@ done_sized (Swap map) d h s = swap_sized d map s
 done_sized (Frame number) d h s = frame_sized d s number
 done_sized Read d h s = read_sized d s
 
+-- The record that lies in bytes.
+pub record Found (l : List ℕ) (d : Dock) : Type 0 where
+  pub is : is_record l ≡ true
+  pub same : d ≡ record_in l
+
+pub found : {l : List ℕ} {d : Dock} → (is_record l ≡ true) × (d ≡ record_in l) → Found l d
+found f = record { is = f.0; same = f.1 }
+
+pub found_in_range : {l : List ℕ} {d : Dock} → Found l d → in_range d ≡ true
+found_in_range {l = l} f = ap in_range f.same ∙ record_in_range l f.is
+
 module _ (call : Call) (l : List ℕ) where
   -- Bytes that are no record are refused and stay as they are.
-  pub refused_lent : is_record l ≡ false → (minus 9 ≡ number_for call l) × (l ≡ bytes_after call l)
+  pub refused_lent : is_record l ≡ false → record { answer : minus 9 ≡ number_for call l; bytes : l ≡ bytes_after call l }
   unfolding number_for bytes_after
-  refused_lent f = (rw f, rw f)
+  refused_lent f = record { answer = rw f; bytes = rw f }
+
+  -- Of a record in the bytes: what waits after a call is at most 16 bytes, and number and bytes are those of the call.
+  module _ (d : Dock) (f : Found l d) (after : Done) (x : after ≡ done call d) where
+    pub room_after : record { size : length l ≡ size; short : after.dock.rest.outgoing.queue.length ≤ 16 }
+    room_after =
+        let good : in_range after.dock ≡ true = ap (λ (y : Done). in_range y.dock) x ∙ done_in_range call d (found_in_range f) in
+        record { size = record_size l f.is; short = tidy_short _ (good_keys_queue (keys_of after.dock) (in_range_keys after.dock good)) }
+
+    pub called_lent : (new : List ℕ) → new ≡ bytes_of after.dock → record { answer : after.number ≡ number_for call l; bytes : new ≡ bytes_after call l }
+    unfolding number_for bytes_after
+    called_lent new e = record { answer = rw (x, f.same, f.is); bytes = rw (e, x, f.same, f.is) }
 
   module _ (h : is_record l ≡ true) where
-    -- Of a record in the bytes: what waits after a call is at most 16 bytes, and number and bytes are those of the call.
-    module _ (d : Dock) (b : d ≡ record_in l) (after : Done) (x : after ≡ done call d) where
-      pub short_after : after.dock.rest.outgoing.queue.length ≤ 16
-      short_after =
-          let good : in_range after.dock ≡ true = ap (λ (y : Done). in_range y.dock) x ∙ done_in_range call d (copy_in_range l h d b) in
-          tidy_short _ (good_keys_queue (keys_of after.dock) (in_range_keys after.dock good))
-
-      pub number_after : after.number ≡ number_for call l
-      unfolding number_for
-      number_after = ap (λ (y : Done). y.number) (x ∙ ap (done call) b) ∙ rw h
-
-      pub bytes_after_lem : (new : List ℕ) → new ≡ bytes_of after.dock → new ≡ bytes_after call l
-      unfolding bytes_after
-      bytes_after_lem new e = e ∙ ap (λ (y : Done). bytes_of y.dock) (x ∙ ap (done call) b) ∙ rw h
-
     -- They are a record again, the one that the call makes of the record in the bytes.
     sized_after : IsSized (done call (record_in l)).dock
     sized_after = done_sized call (record_in l) (record_in_range l h) (record_sized l h)
@@ -116,11 +106,11 @@ module _ (l : List ℕ) where
   unfolding scanning_number
   no_flag f = rw f
 
-  module _ (h : is_record l ≡ true) (rest : Rest) (e : rest ≡ rest_in l) where
-    pub lamps : pos rest.mode.indicators ≡ indicators_number l
+  module _ (d : Dock) (f : Found l d) where
+    pub lamps : pos d.rest.mode.indicators ≡ indicators_number l
     unfolding indicators_number
-    lamps = rw (h, ← e)
+    lamps = rw (f.same, f.is)
 
-    pub flag_found : (on : Bool) → rest.scanning ≡ on → pos (flag_of on) ≡ scanning_number l
+    pub flag_found : pos (flag_of d.rest.scanning) ≡ scanning_number l
     unfolding scanning_number
-    flag_found on f = rw (h, ← e, f)
+    flag_found = rw (f.same, f.is)

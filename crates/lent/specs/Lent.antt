@@ -1,14 +1,12 @@
 -- The calls from C, on a record that is lent as bytes (docs/RULES.md, section 14; include/keydock.h). Assumes nothing.
-use Rattle.std.specs.Prelude.{ℕ, ◌+◌, ◌*◌, List, eqb, ℤ, pos, length, get_or}
+use Rattle.std.specs.Prelude.{ℕ, ◌+◌, ◌*◌, List, eqb, ℤ, pos, length, get_or, Option, Result, ⊤}
 use Rattle.basics.specs.Choice.{pick}
 use Rattle.basics.specs.Said.{Said, minus}
 use Rattle.record.specs.declared.Dock.{Dock}
 use Rattle.record.specs.Power.{power_on}
-use Rattle.dock.specs.declared.Answer.{Answer}
-use Rattle.dock.specs.declared.Answered.{Answered}
+use Rattle.dock.specs.declared.Refusal.{Refusal}
 use Rattle.dock.specs.declared.Given.{Given}
-use Rattle.dock.specs.declared.Taken.{Taken}
-use Rattle.dock.specs.Answers.{answer_says, given_says}
+use Rattle.dock.specs.Answers.{Answered, Taken, answer_says, given_says}
 use Rattle.dock.specs.Calls.{Call, Scan, Swap, Frame, Read}
 use Rattle.dock.specs.Scan.{scan_of}
 use Rattle.dock.specs.Swap.{swap_of}
@@ -22,10 +20,10 @@ said_number said =
     pick (eqb said.number 0) (pos (256 * get_or said.values 0 0 + get_or said.values 1 0)) (minus said.number)
 
 -- An answer, and what a read gave.
-abbrev pub answer_number : Answer → ℤ
+abbrev pub answer_number : Result ⊤ Refusal → ℤ
 answer_number answer = said_number (answer_says answer)
 
-abbrev pub given_number : Given → ℤ
+abbrev pub given_number : Result (Option Given) Refusal → ℤ
 given_number given = said_number (given_says given)
 
 -- What a call does: the number that it gives, and the record after it.

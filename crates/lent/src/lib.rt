@@ -1,32 +1,42 @@
-// The dock's calls on a record that is lent as bytes (docs/RULES.md, section 14). Bytes that are no record are refused before all else; of
-// a record the parts that a call looks at are copied, the call is made in place on the copies, and those that it can change are put back.
+// The dock's calls on a record that is lent as bytes (docs/RULES.md, section 14). Bytes that are no record are refused before all else; a
+// record is copied, the call is made in place on the copy, and the copy is put back.
 #![tactic(auto)]
 
-ghost use Rattle.std.specs.Prelude.{◌≡◌};
+ghost use Rattle.std.specs.Prelude.{◌≡◌, Ok};
 ghost use Rattle.dock.specs.Calls.{Scan, Swap, Frame, Read};
-ghost use Rattle.lent.specs.Lent.{answer_number, number_for, bytes_after, power_number, power_bytes, indicators_number, scanning_number};
+ghost use Rattle.lent.specs.Lent.{answer_number, given_number, number_for, bytes_after, power_number, power_bytes, indicators_number, scanning_number};
 
-use dock::{Answer, Given};
-use layout::reading::{closed_in, counts_in, held_in, is_record, map_in, rest_in, types_in};
-use layout::writing::{put_contacts, put_held, put_record, put_types};
+use dock::{Given, Refusal};
+use layout::SIZE;
+use layout::reading::record_in;
+use layout::writing::put_record;
 use record::power::power_on;
 use scan::scan_in_place;
 use swap::swap_in_place;
 use wire::frame::frame_in_place;
 use wire::read::read_in_place;
 
-// Minus the number of an answer.
-fn answer_number(answer: Answer) -> i32
+// Minus the number of `Refusal::BadRecord`.
+const NO_RECORD: i32 = -9;
+
+// Minus the number of a refusal, 0 for what is accepted.
+fn answer_number(answer: Result<(), Refusal>) -> i32
     ensures { result ≡ answer_number answer }
 {
     match answer {
-        Answer::Accepted => 0,
-        Answer::ScanLength => -1,
-        Answer::MapLength => -2,
-        Answer::MapEntry => -3,
-        Answer::MapDouble => -4,
-        Answer::FrameNumber => -5,
-        Answer::BadRecord => -9,
+        Ok(()) => 0,
+        Err(refusal) => -i32::from(refusal.number()),
+    }
+}
+
+// The kind of the byte given and the byte, 0 where there is none.
+fn given_number(given: Option<Given>) -> i32
+    ensures { result ≡ given_number (Ok given) }
+{
+    match given {
+        None => 0,
+        Some(Given::Reply(byte)) => 256 + i32::from(byte),
+        Some(Given::KeyByte(byte)) => 512 + i32::from(byte),
     }
 }
 
@@ -35,17 +45,10 @@ pub fn keydock_power_on(lent: &mut [u8]) -> i32
     ensures answer { result ≡ power_number lent.old }
     ensures bytes { lent.new ≡ power_bytes lent.old }
 {
-    if lent.len() != layout::SIZE {
-        return -9;
+    if lent.len() != SIZE {
+        return NO_RECORD;
     }
-    let dock = power_on();
-    let map = dock.map;
-    let closed = dock.closed;
-    let counts = dock.counts;
-    let held = dock.held;
-    let types = dock.types;
-    let rest = dock.rest;
-    put_record(lent, map, closed, counts, held, types, rest);
+    put_record(lent, &power_on());
     0
 }
 
@@ -54,27 +57,11 @@ pub fn keydock_scan(lent: &mut [u8], scan: &[u8]) -> i32
     ensures answer { result ≡ number_for (Scan scan.now) lent.old }
     ensures bytes { lent.new ≡ bytes_after (Scan scan.now) lent.old }
 {
-    if !is_record(lent) {
-        return -9;
-    }
-    let map = map_in(lent);
-    let mut closed = closed_in(lent);
-    let mut counts = counts_in(lent);
-    let mut held = held_in(lent);
-    let types = types_in(lent);
-    let rest = rest_in(lent);
-    let answered = scan_in_place(
-        &map,
-        &mut closed,
-        &mut counts,
-        &mut held,
-        &types,
-        rest,
-        scan,
-    );
-    let after = answered.rest;
-    put_contacts(lent, closed, counts, held, after);
-    let answer = answered.answer;
+    let Some(mut dock) = record_in(lent) else {
+        return NO_RECORD;
+    };
+    let answer = scan_in_place(&mut dock, scan);
+    put_record(lent, &dock);
     answer_number(answer)
 }
 
@@ -83,27 +70,11 @@ pub fn keydock_swap(lent: &mut [u8], new: &[u8]) -> i32
     ensures answer { result ≡ number_for (Swap new.now) lent.old }
     ensures bytes { lent.new ≡ bytes_after (Swap new.now) lent.old }
 {
-    if !is_record(lent) {
-        return -9;
-    }
-    let mut map = map_in(lent);
-    let mut closed = closed_in(lent);
-    let mut counts = counts_in(lent);
-    let mut held = held_in(lent);
-    let types = types_in(lent);
-    let rest = rest_in(lent);
-    let answered = swap_in_place(
-        &mut map,
-        &mut closed,
-        &mut counts,
-        &mut held,
-        &types,
-        rest,
-        new,
-    );
-    let after = answered.rest;
-    put_record(lent, map, closed, counts, held, types, after);
-    let answer = answered.answer;
+    let Some(mut dock) = record_in(lent) else {
+        return NO_RECORD;
+    };
+    let answer = swap_in_place(&mut dock, new);
+    put_record(lent, &dock);
     answer_number(answer)
 }
 
@@ -112,25 +83,11 @@ pub fn keydock_frame(lent: &mut [u8], number: u32) -> i32
     ensures answer { result ≡ number_for (Frame number) lent.old }
     ensures bytes { lent.new ≡ bytes_after (Frame number) lent.old }
 {
-    if !is_record(lent) {
-        return -9;
-    }
-    let mut closed = closed_in(lent);
-    let mut counts = counts_in(lent);
-    let mut held = held_in(lent);
-    let mut types = types_in(lent);
-    let rest = rest_in(lent);
-    let answered = frame_in_place(
-        &mut closed,
-        &mut counts,
-        &mut held,
-        &mut types,
-        rest,
-        number,
-    );
-    let after = answered.rest;
-    put_types(lent, closed, counts, held, types, after);
-    let answer = answered.answer;
+    let Some(mut dock) = record_in(lent) else {
+        return NO_RECORD;
+    };
+    let answer = frame_in_place(&mut dock, number);
+    put_record(lent, &dock);
     answer_number(answer)
 }
 
@@ -139,43 +96,30 @@ pub fn keydock_read(lent: &mut [u8]) -> i32
     ensures answer { result ≡ number_for Read lent.old }
     ensures bytes { lent.new ≡ bytes_after Read lent.old }
 {
-    if !is_record(lent) {
-        return -9;
-    }
-    let mut held = held_in(lent);
-    let types = types_in(lent);
-    let rest = rest_in(lent);
-    let taken = read_in_place(&mut held, &types, rest);
-    let after = taken.rest;
-    put_held(lent, held, after);
-    let given = taken.given;
-    match given {
-        Given::Nothing => 0,
-        Given::Reply(byte) => (256 + byte as u32) as i32,
-        Given::KeyByte(byte) => (512 + byte as u32) as i32,
-        Given::Refused => -9,
-    }
+    let Some(mut dock) = record_in(lent) else {
+        return NO_RECORD;
+    };
+    let given = read_in_place(&mut dock);
+    put_record(lent, &dock);
+    given_number(given)
 }
 
 // The lamps that the host wants lit.
 pub fn keydock_indicators(lent: &[u8]) -> i32
     ensures { result ≡ indicators_number lent.now }
 {
-    if !is_record(lent) {
-        return -9;
+    match record_in(lent) {
+        Some(dock) => i32::from(dock.rest.mode.indicators),
+        None => NO_RECORD,
     }
-    let rest = rest_in(lent);
-    let mode = rest.mode;
-    mode.indicators as i32
 }
 
 // Whether the host wants scans to be heard.
 pub fn keydock_scanning(lent: &[u8]) -> i32
     ensures { result ≡ scanning_number lent.now }
 {
-    if !is_record(lent) {
-        return -9;
+    match record_in(lent) {
+        Some(dock) => i32::from(dock.rest.scanning),
+        None => NO_RECORD,
     }
-    let rest = rest_in(lent);
-    if rest.scanning { 1 } else { 0 }
 }

@@ -1,5 +1,5 @@
--- Whatever a line does, a record in its range stays in its range, and the contacts keep their sizes. Assumes nothing.
-use mathlib.Core.Path.{◌≡◌, sym, subst}
+-- Whatever a line does, a record in its range stays in its range. Assumes nothing.
+use mathlib.Core.Path.{◌≡◌, ap, ◌∙◌}
 use mathlib.Core.Bool.{true}
 use mathlib.Core.List.{List}
 use Prim.Native.Nat.{ℕ}
@@ -8,16 +8,14 @@ use Rattle.dock.specs.Scan.{scan_of}
 use Rattle.dock.specs.Swap.{swap_of}
 use Rattle.dock.specs.Frame.{frame_of}
 use Rattle.dock.specs.Read.{read_of}
-use Rattle.dock.specs.Standing.{Standing}
 use Rattle.dock.proofs.InRange.{scan_in_range, read_in_range, swap_in_range, frame_in_range}
-use Rattle.dock.proofs.Sizes.{Sizes, scan_sizes, read_sizes, swap_sizes, frame_sizes}
 use Rattle.record.specs.declared.Dock.{Dock}
 use Rattle.range.specs.Range.{in_range}
 use Rattle.text.specs.declared.Kind.{Kind}
 use Rattle.text.specs.declared.Kind.TheVariants.{Read, Frame, Scan, Map, Malformed}
 use Rattle.text.specs.Lines.{kind_of}
-use Rattle.lines.specs.declared.Stepped.{Stepped}
-use Rattle.lines.specs.Steps.{step_by, step_of}
+use Rattle.printing.specs.Printing.{Printed}
+use Rattle.lines.specs.Steps.{Stepped, stepped, step_by, step_of}
 
 -- What every call keeps, a line keeps.
 line_keeps : (P : Dock → Type 0) (d : Dock) (line : List ℕ) → P d → P (read_of d).dock → ((number : ℕ) → P (frame_of d number).dock)
@@ -36,13 +34,7 @@ pub step_in_range : (d : Dock) (line : List ℕ) → in_range d ≡ true → in_
 step_in_range d line h =
     line_keeps (λ (e : Dock). in_range e ≡ true) d line h (read_in_range d h) (λ number. frame_in_range d number h) (λ scan. scan_in_range d scan h) (λ map. swap_in_range d map h)
 
-step_sizes : (d : Dock) (line : List ℕ) → Sizes d → Sizes (step_of d line).dock
-step_sizes d line s =
-    line_keeps Sizes d line s (read_sizes d s) (λ number. frame_sizes d number s) (λ scan. scan_sizes d scan s) (λ map. swap_sizes d map s)
-
--- So from line to line a record goes on standing as the calls in place ask for it.
-pub stepped_standing : (d : Dock) (line : List ℕ) (r : Stepped) → r ≡ step_of d line → Standing d → Standing r.dock
-stepped_standing d line r e s =
-    let sizes = step_sizes d line (record { closed = s.closed; counts = s.counts }) in
-    subst (λ (y : Stepped). Standing y.dock) (sym e)
-    (record { range = step_in_range d line s.range; closed = sizes.closed; counts = sizes.counts })
+-- So it does in place.
+pub stepped_in_range : (d next : Dock) (line : List ℕ) (printed : Printed) → stepped next printed ≡ step_of d line → in_range d ≡ true
+    → in_range next ≡ true
+stepped_in_range d next line printed e h = ap (λ (r : Stepped). in_range r.dock) e ∙ step_in_range d line h

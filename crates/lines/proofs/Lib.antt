@@ -1,5 +1,3 @@
-pub mod Printing
 pub mod InRange
 pub mod Refusals
 pub mod Saying
-pub mod Once

@@ -3,6 +3,7 @@ use mathlib.Core.Path.{◌≡◌, refl, ap}
 use mathlib.Core.Bool.{true}
 use mathlib.Core.List.{List}
 use Prim.Native.Nat.{ℕ}
+use Rattle.std.specs.Prelude.{Err}
 use Rattle.basics.proofs.Cases.{picked}
 use Rattle.dock.specs.Frame.{frame_of}
 use Rattle.dock.specs.Read.{read_of}
@@ -14,11 +15,9 @@ use Rattle.range.specs.Range.{in_range}
 use Rattle.text.specs.declared.Kind.{Kind}
 use Rattle.text.specs.declared.Kind.TheVariants.{Read, Frame, Scan, Map, Malformed}
 use Rattle.digits.specs.Digits.{bytes_from, frame_in}
-use Rattle.printing.specs.declared.Printed.TheVariants.{RefusalLine}
 use Rattle.printing.proofs.Saying.{refuses, not_accepted, read_not_accepted}
 use Rattle.text.specs.Lines.{kind_of}
-use Rattle.lines.specs.declared.Stepped.{Stepped}
-use Rattle.lines.specs.Steps.{step_by, step_of}
+use Rattle.lines.specs.Steps.{Stepped, step_by, step_of}
 
 module _ (d : Dock) where
   -- If it is a refusal, the record is the one that came.
@@ -32,6 +31,6 @@ module _ (d : Dock) where
   left Map line e = swap_refused d (bytes_from line 0 144) (not_accepted (swap_of d (bytes_from line 0 144)).answer e)
   left Malformed line e = refl
 
-  pub step_refused : (line : List ℕ) (number : ℕ) → (step_of d line).printed ≡ RefusalLine number → (step_of d line).dock ≡ d
+  pub step_refused : (line : List ℕ) (number : ℕ) → (step_of d line).printed ≡ Err number → (step_of d line).dock ≡ d
   unfolding step_of
   step_refused line number e = picked Left (in_range d) _ _ (left (kind_of line) line) (λ refused. refl) (ap refuses e)

@@ -16,8 +16,7 @@ use Rattle.text.specs.declared.Kind.TheVariants.{Read, Frame, Scan, Map, Malform
 use Rattle.digits.specs.Digits.{bytes_from, frame_in}
 use Rattle.printing.proofs.Saying.{answer_printed, read_printed}
 use Rattle.text.specs.Lines.{kind_of}
-use Rattle.lines.specs.declared.Stepped.{Stepped}
-use Rattle.lines.specs.Steps.{step_by, step_of, stepped_says, line_said, step_said}
+use Rattle.lines.specs.Steps.{Stepped, step_by, step_of, stepped_says, line_said, step_said}
 use Rattle.printing.specs.Printing.{as_frame}
 
 module _ (d : Dock) (line : List ℕ) where

@@ -1,27 +1,25 @@
 -- What a line of the bench does and prints (docs/RULES.md, section 12). Assumes nothing.
-use Rattle.std.specs.Prelude.{ℕ, List}
+use Rattle.std.specs.Prelude.{ℕ, List, Err}
 use Rattle.basics.specs.Choice.{pick}
 use Rattle.basics.specs.Said.{Said, refused}
-use Rattle.dock.specs.declared.Answered.{Answered}
-use Rattle.dock.specs.declared.Taken.{Taken}
+use Rattle.dock.specs.Answers.{Answered, Taken}
 use Rattle.dock.specs.Frame.{frame_of, frame_said}
 use Rattle.dock.specs.Read.{read_of, read_said}
 use Rattle.dock.specs.Scan.{scan_of, scan_said}
 use Rattle.dock.specs.Swap.{swap_of, swap_said}
 use Rattle.record.specs.declared.Dock.{Dock}
-use Rattle.record.specs.Parts.{dock_with}
 use Rattle.range.specs.Range.{in_range}
 use Rattle.text.specs.declared.Kind.{Kind}
 use Rattle.text.specs.declared.Kind.TheVariants.{Read, Frame, Scan, Map, Malformed}
 use Rattle.digits.specs.Digits.{bytes_from, frame_in}
 use Rattle.text.specs.Lines.{kind_of}
-use Rattle.printing.specs.declared.Printed.{Printed}
-use Rattle.printing.specs.declared.Printed.TheVariants.{RefusalLine}
-use Rattle.printing.specs.Printing.{answer_prints, read_prints, printed_says, as_frame}
-use Rattle.lines.specs.declared.Stepped.{Stepped}
-use Rattle.lines.specs.declared.SteppedRest.{SteppedRest}
+use Rattle.printing.specs.Printing.{Printed, answer_prints, read_prints, printed_says, as_frame}
 
--- The record and what is printed.
+-- The record after a line, and what the line prints.
+pub record Stepped : Type 0 where
+  pub dock : Dock
+  pub printed : Printed
+
 abbrev pub stepped : Dock → Printed → Stepped
 stepped dock printed = record { dock = dock; printed = printed }
 
@@ -33,21 +31,17 @@ stepped_by r = stepped r.dock (answer_prints r.answer)
 abbrev pub stepped_read : Taken → Stepped
 stepped_read r = stepped r.dock (read_prints r.given)
 
--- The same in place: the arrays as they are, and the rest.
-abbrev pub stepped_with : List ℕ → List ℕ → List ℕ → List ℕ → List ℕ → SteppedRest → Stepped
-stepped_with map closed counts held types x = stepped (dock_with map closed counts held types x.rest) x.printed
-
 -- What a line of a kind does.
 abbrev pub step_by : Kind → Dock → List ℕ → Stepped
 step_by Read d line = stepped_read (read_of d)
 step_by Frame d line = stepped_by (frame_of d (frame_in line))
 step_by Scan d line = stepped_by (scan_of d (bytes_from line 0 18))
 step_by Map d line = stepped_by (swap_of d (bytes_from line 0 144))
-step_by Malformed d line = stepped d (RefusalLine 8)
+step_by Malformed d line = stepped d (Err 8)
 
 -- What a line does, its newline apart. A record out of its range is refused before all else.
 unfoldable pub step_of : Dock → List ℕ → Stepped
-step_of d line = pick (in_range d) (step_by (kind_of line) d line) (stepped d (RefusalLine 9))
+step_of d line = pick (in_range d) (step_by (kind_of line) d line) (stepped d (Err 9))
 
 -- The same of a line beside the record.
 abbrev pub stepped_says : Stepped → Said

@@ -2,7 +2,7 @@
 use mathlib.Core.Path.{◌≡◌, refl}
 use mathlib.Core.Bool.{Bool, true, false}
 use Rattle.basics.proofs.Cases.{never}
-use Rattle.std.specs.Prelude.{Option, Some, None, Result, Ok, Err, ⊤}
+use Rattle.std.specs.Prelude.{Option, Some, None, Result, Ok, Err, is_ok, ⊤}
 use Rattle.dock.specs.declared.Refusal.{Refusal}
 use Rattle.dock.specs.declared.Refusal.TheVariants.{ScanLength, MapLength, MapEntry, MapDouble, FrameNumber, BadRecord}
 use Rattle.dock.specs.declared.Given.{Given}
@@ -36,3 +36,10 @@ refuses (Err number) = true
 pub not_accepted : (answer : Result ⊤ Refusal) → refuses (answer_prints answer) ≡ true → is_accepted answer ≡ false
 not_accepted (Ok done) e = never false e refl
 not_accepted (Err refusal) e = refl
+
+-- And a read was refused.
+pub read_not_accepted : (given : Result (Option Given) Refusal) → refuses (read_prints given) ≡ true → is_ok given ≡ false
+read_not_accepted (Ok None) e = never false e refl
+read_not_accepted (Ok (Some (Reply byte))) e = never false e refl
+read_not_accepted (Ok (Some (KeyByte byte))) e = never false e refl
+read_not_accepted (Err refusal) e = refl

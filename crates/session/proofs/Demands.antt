@@ -4,7 +4,7 @@ use mathlib.Core.List.{List, [], ◌∷◌, ◌++◌}
 use Prim.Native.Nat.{ℕ, ◌≤◌}
 use Rattle.keys.specs.Keys.{last_key}
 use Rattle.keys.specs.Named.{pause_key}
-use Rattle.printing.specs.declared.Printed.{Printed}
+use Rattle.printing.specs.Printing.{Printed}
 use Rattle.lines.specs.Steps.{step_of}
 use Rattle.record.specs.declared.Dock.{Dock}
 use Rattle.record.specs.Power.{power_on}

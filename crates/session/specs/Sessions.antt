@@ -1,7 +1,7 @@
 -- The lines of a session, one after the other, and the calls that they make (docs/RULES.md, section 12). Assumes nothing.
 use Rattle.std.specs.Prelude.{ℕ, List, [], ◌∷◌, ◌++◌}
 use Rattle.digits.specs.Digits.{bytes_from, frame_in}
-use Rattle.printing.specs.declared.Printed.{Printed}
+use Rattle.printing.specs.Printing.{Printed}
 use Rattle.lines.specs.Steps.{step_of}
 use Rattle.record.specs.declared.Dock.{Dock}
 use Rattle.dock.specs.Calls.{Call}

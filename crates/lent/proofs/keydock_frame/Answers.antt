@@ -1,56 +1,34 @@
--- `keydock_frame` meets its contract: the host's byte is taken on copies, and all but the map is put back. Assumes nothing.
-use mathlib.Core.Path.{◌≡◌, refl, sym, ap, ◌∙◌}
-use mathlib.Core.Bool.{true}
+-- `keydock_frame` meets its contract: the frame is taken on a copy of the record, and that is put back. Assumes nothing.
+use mathlib.Core.Path.{◌≡◌, ap, ◌∙◌}
+use mathlib.Core.Bool.{false}
+use borrow.Author.Rules.{rules}
+use mir.Syntax.{w32}
+use mir.Val.{to_z, of_z}
 use Rattle.range.proofs.Ranges.{in_range_rest}
-use Rattle.dock.proofs.Framing.{frame_taken}
 use Rattle.dock.specs.Calls.{Frame}
-use Rattle.layout.specs.Layout.{map_in, is_record}
-use Rattle.layout.proofs.Fronts.{types_put}
-use Rattle.layout.proofs.Records.{record_size, copied}
+use Rattle.dock.proofs.Framing.{frame_taken}
+use Rattle.layout.specs.Layout.{is_record}
 use Rattle.lent.specs.Lent.{answered_done}
-use Rattle.lent.proofs.Numbers.{answer_fits}
-use Rattle.lent.proofs.Lending.{refused_lent, copy_in_range, short_after, number_after, bytes_after_lem}
+use Rattle.lent.proofs.Lending.{found, found_in_range, refused_lent, room_after, called_lent}
 use Rattle.lent.proofs.keydock_frame.Goals as goal
 
-pub returns-then-not-is_record : goal.returns-then-not-is_record
-returns-then-not-is_record c =
-    let refused = refused_lent (Frame _) _ (sym c.is_record.ensures ∙ c.if-not-is_record.true) in
-    record { answer = refused.0; bytes = refused.1 }
+pub returns-in_default : goal.returns-in_default
+returns-in_default c =
+    let none : is_record c.args.lent.now ≡ false = search rules in
+    refused_lent (Frame _) _ none
 
-pub closed_in-closed-requires : goal.closed_in-closed-requires
-closed_in-closed-requires c = record_size _ (sym c.is_record.ensures ∙ c.if-not-is_record.false)
+pub frame_in_place-answer-requires : goal.frame_in_place-answer-requires
+frame_in_place-answer-requires c = let here = found c.in-Some.ensures in in_range_rest _ (found_in_range here)
 
-pub counts_in-counts-requires : goal.counts_in-counts-requires
-counts_in-counts-requires c = record_size _ (sym c.is_record.ensures ∙ c.if-not-is_record.false)
-
-pub held_in-held-requires : goal.held_in-held-requires
-held_in-held-requires c = record_size _ (sym c.is_record.ensures ∙ c.if-not-is_record.false)
-
-pub types_in-types-requires : goal.types_in-types-requires
-types_in-types-requires c = record_size _ (sym c.is_record.ensures ∙ c.if-not-is_record.false)
-
-pub rest_in-rest-requires : goal.rest_in-rest-requires
-rest_in-rest-requires c = record_size _ (sym c.is_record.ensures ∙ c.if-not-is_record.false)
-
-pub frame_in_place-answered-requires : goal.frame_in_place-answered-requires
-frame_in_place-answered-requires c =
-    let good : is_record c.args.lent.now ≡ true = sym c.is_record.ensures ∙ c.if-not-is_record.false in
-    let same = copied _ (map_in c.args.lent.now) _ _ _ _ _ refl c.closed_in-closed.ensures c.counts_in-counts.ensures c.held_in-held.ensures c.types_in-types.ensures c.rest_in-rest.ensures in
-    in_range_rest _ (copy_in_range _ good _ same)
-
-pub put_types-requires : goal.put_types-requires
-put_types-requires c =
-    let good : is_record c.args.lent.now ≡ true = sym c.is_record.ensures ∙ c.if-not-is_record.false in
-    let same = copied _ (map_in c.args.lent.now) _ _ _ _ _ refl c.closed_in-closed.ensures c.counts_in-counts.ensures c.held_in-held.ensures c.types_in-types.ensures c.rest_in-rest.ensures in
-    let made = ap answered_done (c.frame_in_place-answered.ensures _ ∙ frame_taken _ _ (copy_in_range _ good _ same)) in
-    record { size = record_size _ good; short = short_after (Frame _) _ good _ same _ made }
+pub put_record-requires : goal.put_record-requires
+put_record-requires c =
+    let here = found c.in-Some.ensures in
+    room_after (Frame _) _ _ here _ (ap answered_done (c.frame_in_place-answer.ensures ∙ frame_taken _ _ (found_in_range here)))
 
 pub returns : goal.returns
 returns c =
-    let good : is_record c.args.lent.now ≡ true = sym c.is_record.ensures ∙ c.if-not-is_record.false in
-    let same = copied _ (map_in c.args.lent.now) _ _ _ _ _ refl c.closed_in-closed.ensures c.counts_in-counts.ensures c.held_in-held.ensures c.types_in-types.ensures c.rest_in-rest.ensures in
-    let made = ap answered_done (c.frame_in_place-answered.ensures _ ∙ frame_taken _ _ (copy_in_range _ good _ same)) in
-    record {
-      answer = answer_fits c.frame_in_place-answered.result.answer _ c.answer_number.ensures ∙ number_after (Frame _) _ good _ same _ made;
-      bytes = bytes_after_lem (Frame _) _ good _ same _ made _ (c.put_types.ensures ∙ types_put _ _ same _ _ _ _ _);
-    }
+    let here = found c.in-Some.ensures in
+    let called = called_lent (Frame _) _ _ here _ (ap answered_done (c.frame_in_place-answer.ensures ∙ frame_taken _ _ (found_in_range here))) _ c.put_record.ensures in
+    let number = c.answer_number.result in
+    let fits : to_z w32 (of_z w32 number) ≡ number = search rules in
+    record { answer = fits ∙ c.answer_number.ensures ∙ called.answer; bytes = called.bytes }

@@ -12,9 +12,9 @@ returns-then-lent-ne-SIZE c =
 
 pub put_record-requires : goal.put_record-requires
 put_record-requires c =
-    record { size = omega arith; short = fresh_short _ c.power_on-dock.ensures }
+    record { size = omega arith; short = fresh_short _ c.power_on.ensures }
 
 pub returns : goal.returns
 returns c =
-    let done = woken c.args.lent.now (omega arith) _ (c.put_record.ensures ∙ ap bytes_of c.power_on-dock.ensures) in
+    let done = woken c.args.lent.now (omega arith) _ (c.put_record.ensures ∙ ap bytes_of c.power_on.ensures) in
     record { answer = done.0; bytes = done.1 }

@@ -1,19 +1,17 @@
 -- `keydock_scanning` meets its contract: the flag is looked up in the record. Assumes nothing.
-use mathlib.Core.Path.{sym, ◌∙◌}
-use Rattle.layout.proofs.Records.{record_size}
-use Rattle.lent.proofs.Lending.{no_flag, flag_found}
+use mathlib.Core.Path.{◌≡◌, ap, ◌∙◌}
+use borrow.Author.Rules.{rules}
+use mir.Syntax.{w32}
+use mir.Val.{to_z, of_z}
+use lib.IntN.{pos}
+use Rattle.layout.proofs.Putting.{flag_byte}
+use Rattle.lent.proofs.Lending.{found, no_flag, flag_found}
 use Rattle.lent.proofs.keydock_scanning.Goals as goal
 
-pub returns-then-not-is_record : goal.returns-then-not-is_record
-returns-then-not-is_record c = no_flag _ (sym c.is_record.ensures ∙ c.if-not-is_record.true)
+pub returns-in-Some : goal.returns-in-Some
+returns-in-Some c =
+    let fits : to_z w32 (of_z w32 c.from.result) ≡ c.from.result = search rules in
+    fits ∙ c.from.ensures ∙ ap pos (flag_byte c.in-Some.dock.rest.scanning) ∙ flag_found _ _ (found c.in-Some.ensures)
 
-pub returns-then-rest : goal.returns-then-rest
-returns-then-rest c =
-    flag_found _ (sym c.is_record.ensures ∙ c.if-not-is_record.false) _ c.rest_in-rest.ensures _ c.if-rest.true
-
-pub returns-else-rest : goal.returns-else-rest
-returns-else-rest c =
-    flag_found _ (sym c.is_record.ensures ∙ c.if-not-is_record.false) _ c.rest_in-rest.ensures _ c.if-rest.false
-
-pub rest_in-rest-requires : goal.rest_in-rest-requires
-rest_in-rest-requires c = record_size _ (sym c.is_record.ensures ∙ c.if-not-is_record.false)
+pub returns-in-None : goal.returns-in-None
+returns-in-None c = no_flag _ c.in-None.ensures

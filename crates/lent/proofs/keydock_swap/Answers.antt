@@ -1,56 +1,32 @@
--- `keydock_swap` meets its contract: the swap is made on copies, and the whole record is put back. Assumes nothing.
-use mathlib.Core.Path.{◌≡◌, sym, ap, ◌∙◌}
-use mathlib.Core.Bool.{true}
+-- `keydock_swap` meets its contract: the panel is swapped on a copy of the record, and that is put back. Assumes nothing.
+use mathlib.Core.Path.{◌≡◌, ap, ◌∙◌}
+use mathlib.Core.Bool.{false}
+use borrow.Author.Rules.{rules}
+use mir.Syntax.{w32}
+use mir.Val.{to_z, of_z}
 use Rattle.dock.specs.Calls.{Swap}
 use Rattle.layout.specs.Layout.{is_record}
-use Rattle.layout.proofs.Records.{record_size, copied}
 use Rattle.lent.specs.Lent.{answered_done}
-use Rattle.lent.proofs.Numbers.{answer_fits}
-use Rattle.lent.proofs.Lending.{refused_lent, copy_in_range, short_after, number_after, bytes_after_lem}
+use Rattle.lent.proofs.Lending.{found, found_in_range, refused_lent, room_after, called_lent}
 use Rattle.lent.proofs.keydock_swap.Goals as goal
 
-pub returns-then-not-is_record : goal.returns-then-not-is_record
-returns-then-not-is_record c =
-    let refused = refused_lent (Swap _) _ (sym c.is_record.ensures ∙ c.if-not-is_record.true) in
-    record { answer = refused.0; bytes = refused.1 }
+pub returns-in_default : goal.returns-in_default
+returns-in_default c =
+    let none : is_record c.args.lent.now ≡ false = search rules in
+    refused_lent (Swap _) _ none
 
-pub map_in-map-requires : goal.map_in-map-requires
-map_in-map-requires c = record_size _ (sym c.is_record.ensures ∙ c.if-not-is_record.false)
-
-pub closed_in-closed-requires : goal.closed_in-closed-requires
-closed_in-closed-requires c = record_size _ (sym c.is_record.ensures ∙ c.if-not-is_record.false)
-
-pub counts_in-counts-requires : goal.counts_in-counts-requires
-counts_in-counts-requires c = record_size _ (sym c.is_record.ensures ∙ c.if-not-is_record.false)
-
-pub held_in-held-requires : goal.held_in-held-requires
-held_in-held-requires c = record_size _ (sym c.is_record.ensures ∙ c.if-not-is_record.false)
-
-pub types_in-types-requires : goal.types_in-types-requires
-types_in-types-requires c = record_size _ (sym c.is_record.ensures ∙ c.if-not-is_record.false)
-
-pub rest_in-rest-requires : goal.rest_in-rest-requires
-rest_in-rest-requires c = record_size _ (sym c.is_record.ensures ∙ c.if-not-is_record.false)
-
-pub swap_in_place-answered-requires : goal.swap_in_place-answered-requires
-swap_in_place-answered-requires c =
-    let good : is_record c.args.lent.now ≡ true = sym c.is_record.ensures ∙ c.if-not-is_record.false in
-    let same = copied _ _ _ _ _ _ _ c.map_in-map.ensures c.closed_in-closed.ensures c.counts_in-counts.ensures c.held_in-held.ensures c.types_in-types.ensures c.rest_in-rest.ensures in
-    copy_in_range _ good _ same
+pub swap_in_place-answer-requires : goal.swap_in_place-answer-requires
+swap_in_place-answer-requires c = let here = found c.in-Some.ensures in found_in_range here
 
 pub put_record-requires : goal.put_record-requires
 put_record-requires c =
-    let good : is_record c.args.lent.now ≡ true = sym c.is_record.ensures ∙ c.if-not-is_record.false in
-    let same = copied _ _ _ _ _ _ _ c.map_in-map.ensures c.closed_in-closed.ensures c.counts_in-counts.ensures c.held_in-held.ensures c.types_in-types.ensures c.rest_in-rest.ensures in
-    let made = ap answered_done c.swap_in_place-answered.ensures in
-    record { size = record_size _ good; short = short_after (Swap _) _ good _ same _ made }
+    let here = found c.in-Some.ensures in
+    room_after (Swap _) _ _ here _ (ap answered_done c.swap_in_place-answer.ensures)
 
 pub returns : goal.returns
 returns c =
-    let good : is_record c.args.lent.now ≡ true = sym c.is_record.ensures ∙ c.if-not-is_record.false in
-    let same = copied _ _ _ _ _ _ _ c.map_in-map.ensures c.closed_in-closed.ensures c.counts_in-counts.ensures c.held_in-held.ensures c.types_in-types.ensures c.rest_in-rest.ensures in
-    let made = ap answered_done c.swap_in_place-answered.ensures in
-    record {
-      answer = answer_fits c.swap_in_place-answered.result.answer _ c.answer_number.ensures ∙ number_after (Swap _) _ good _ same _ made;
-      bytes = bytes_after_lem (Swap _) _ good _ same _ made _ c.put_record.ensures;
-    }
+    let here = found c.in-Some.ensures in
+    let called = called_lent (Swap _) _ _ here _ (ap answered_done c.swap_in_place-answer.ensures) _ c.put_record.ensures in
+    let number = c.answer_number.result in
+    let fits : to_z w32 (of_z w32 number) ≡ number = search rules in
+    record { answer = fits ∙ c.answer_number.ensures ∙ called.answer; bytes = called.bytes }
