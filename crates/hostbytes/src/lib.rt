@@ -1,4 +1,6 @@
 // The bytes that the host and the dock say to each other, by the names of the rules (docs/RULES.md, section 11).
+// They are constants and no enum: each is looked at by one match, bytes that are no command among them, and the command that waits stands
+// in the record as its byte, so an enum would be one table more, from bytes to its cases, and one back.
 #![tactic(auto)]
 
 // From this one on a byte is a command; below it a byte is a value.

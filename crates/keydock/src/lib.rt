@@ -53,7 +53,7 @@ pub fn keydock_key_codes(
     }
 }
 
-// The number of an event.
+// The number of an event, written out: what has a value in it is no number by `as`.
 fn event_number(event: Event) -> u32
     ensures { result ≡ event_number event }
 {

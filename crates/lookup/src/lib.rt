@@ -34,6 +34,7 @@ pub trait Prefixed: Set {
         ensures { result ≡ found (key_with Self.number (0xe000 + byte)) };
 }
 
+// The three sets.
 pub struct Set1;
 
 #[tactic(auto, using(crate::proofs::Entries::alone_in_set1))]
