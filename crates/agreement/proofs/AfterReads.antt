@@ -1,19 +1,18 @@
 -- Demand 3 speaks of moments when nothing waits, and they come: after any calls of such a run 1019 reads or more bring one, and then the
 -- keys that the terminal finds down are exactly those that the counted scans say are held, Pause apart. Assumes nothing.
-use mathlib.Core.Path.{◌≡◌, refl, ap, ◌∙◌}
-use mathlib.Core.Bool.{Bool, true, not}
+use native.Mathlib.Omega.{arith}
+use mathlib.Core.Path.{◌≡◌, refl, ◌∙◌}
+use mathlib.Core.Bool.{true}
 use mathlib.Core.List.{List, [], ◌∷◌, ◌++◌}
 use Prim.Native.Nat.{ℕ, zero, suc, ◌≤◌}
 use lib.ListN.{replicate}
-use Rattle.basics.specs.Choice.{both, either}
 use Rattle.keys.specs.Keys.{last_key}
 use Rattle.keys.specs.Named.{pause_key}
 use Rattle.dock.specs.Scan.{quiet}
 use Rattle.dock.specs.Calls.{Call, Read}
-use Rattle.runs.specs.Clearing.{is_clearing_call}
 use Rattle.runs.specs.Machines.{ours}
 use Rattle.runs.specs.Worlds.{World, woken, next, after_calls, scans_say}
-use Rattle.runs.specs.Runs.{may_begin, beginning, overruns_in, undisturbed}
+use Rattle.runs.specs.Runs.{may_begin, beginning, undisturbed}
 use Rattle.runs.specs.Demand.{end_of, Premises}
 use Rattle.terminal.specs.Terminals.{is_down}
 use Rattle.agreement.proofs.Taken.{nothing_is_quiet}
@@ -38,8 +37,7 @@ reads_calm (suc n) w = reads_calm n (next ours w Read)
 calm_with_reads : (calls : List Call) (n : ℕ) (w : World) → undisturbed ours w (calls ++ replicate n Read) ≡ undisturbed ours w calls
 unfolding undisturbed
 calm_with_reads [] n w = reads_calm n w
-calm_with_reads (call ∷ calls) n w =
-    ap (λ (b : Bool). both (not (either (is_clearing_call call) (overruns_in w call))) b) (calm_with_reads calls n (next ours w call))
+calm_with_reads (call ∷ calls) n w = grind (arith, calm_with_reads calls n (next ours w call))
 
 -- A read tells the onlooker nothing, so the scans say after reads what they said before.
 pub reads_say_the_same : (n : ℕ) (w : World) (key : ℕ) → scans_say (after_calls ours w (replicate n Read)) key ≡ scans_say w key
@@ -68,4 +66,4 @@ module _ (earlier calls : List Call) (begins : may_begin ours (after_calls ours 
 
   pub third_demand_after_reads : (key : ℕ) → 1 ≤ key → key ≤ last_key → (key ≡ pause_key → ⊥)
       → is_down (end_of ours earlier (calls ++ replicate n Read)).terminal key ≡ scans_say (end_of ours earlier (calls ++ replicate n Read)) key
-  third_demand_after_reads = third_demand earlier (calls ++ replicate n Read) reads_meet_premises
+  third_demand_after_reads = grind (arith, third_demand, reads_meet_premises)

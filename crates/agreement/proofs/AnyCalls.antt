@@ -5,10 +5,11 @@ use mathlib.Core.Logic.{inl}
 use mathlib.Core.Bool.{Bool, true, false, not}
 use mathlib.Core.List.{List, [], ◌∷◌}
 use native.Mathlib.Omega.{arith}
-use borrow.Author.Tests.{not-true, ne_eqb}
+use borrow.Author.Tests.{not-true}
 use Prim.Native.Nat.{ℕ}
 use lib.Dec.{eqb}
 use lib.ListN.{length}
+use Rattle.std.proofs.lemmas.Grind.{common_steps}
 use Rattle.basics.specs.Choice.{pick, both, either}
 use Rattle.basics.specs.Lists.{all_up_to}
 use Rattle.basics.proofs.Flags.{left_of_both, right_of_both}
@@ -18,7 +19,6 @@ use Rattle.dock.specs.Scan.{listening, is_counted}
 use Rattle.dock.specs.Swap.{swap_of}
 use Rattle.history.specs.Scans.{counted_all}
 use Rattle.keying.specs.Repeat.{ticked}
-use Rattle.keys.specs.Keys.{last_key}
 use Rattle.maps.specs.Maps.{is_in, has_double}
 use Rattle.queue.specs.Queues.{queue_of}
 use Rattle.record.specs.declared.Dock.{Dock}
@@ -79,22 +79,16 @@ woken_sound =
 
 -- Where a terminal begins.
 pub begun_sound : (w : World) → Sound w → Sound (beginning w)
-begun_sound w s = record { range = s.range; settled = s.settled; knows = s.knows }
+begun_sound w s = grind arith
 
 -- Where no handover is open and no scan has been counted no key is held, so none is left.
 none_left : (d : Dock) (scans : List (List ℕ)) → IsReady d scans → d.rest.handover ≡ false → scans ≡ [] → key_left d ≡ false
 unfolding key_left finds_no_room
-none_left d scans r shut none =
-    rw (none_lowest last_key 1 d.held (none_held d scans r shut (rw none (no_scan_says 0 d.map))))
+none_left d scans r shut none = grind (arith, none_lowest, none_held, no_scan_says)
 
 -- A handover is open exactly if a key is left and no scan has been counted since the swap.
 still_open : (d : Dock) (scans : List (List ℕ)) → Settled d scans → d.rest.handover ≡ both (eqb (length scans) 0) (key_left d)
-still_open d scans s = go d.rest.handover refl scans refl
-  where
-    go : (open' : Bool) → d.rest.handover ≡ open' → (l : List (List ℕ)) → scans ≡ l → open' ≡ both (eqb (length l) 0) (key_left d)
-    go true e l f = rw (sym f ∙ s.ready.anew e) (sym (s.left e))
-    go false e [] f = sym (none_left d scans s.ready e f)
-    go false e (scan ∷ l) f = rw (ne_eqb (length (scan ∷ l)) 0 (λ z. omega arith))
+still_open d scans s = grind (arith, common_steps, none_left)
 
 -- The dock counts the scans that the onlooker counts.
 pub same_count : (w : World) → Sound w → (scan : List ℕ)

@@ -1,14 +1,11 @@
 -- Asked which set is in use, the dock gives FA and then the set that the calls before have chosen, whatever they were; it goes on in that
 -- set, and waits for no value. Assumes nothing.
 use mathlib.Core.Path.{◌≡◌, ap, ◌∙◌}
-use mathlib.Core.Bool.{true, false}
+use mathlib.Core.Bool.{true}
 use mathlib.Core.List.{List, [], ◌∷◌}
 use Prim.Native.Nat.{ℕ, ◌<◌}
 use native.Mathlib.Omega.{arith}
-use lib.Dec.{eqb}
 use lib.ListN.{drop}
-use Rattle.basics.specs.Choice.{pick, both}
-use Rattle.basics.proofs.Flags.{both_false}
 use Rattle.std.specs.Prelude.{Some, Ok}
 use Rattle.dock.specs.declared.Given.TheVariants.{Reply}
 use Rattle.dock.specs.Calls.{Call, Frame, Read}
@@ -25,7 +22,7 @@ use Rattle.replies.specs.Replies.{waiting_replies, replies_of}
 use Rattle.replies.proofs.ReplyMeaning.{waiting-replies_of}
 use Rattle.runs.specs.Bytes.{foremost}
 use Rattle.runs.specs.Machines.{ours}
-use Rattle.runs.specs.Onlookers.{Onlooker, waiting_after, set_after, saw_byte, saw_frame}
+use Rattle.runs.specs.Onlookers.{waiting_after, set_after, saw_byte}
 use Rattle.runs.specs.Rules.{one_of, numbers_from, sets, values_for, waits_for_value}
 use Rattle.runs.specs.Worlds.{World, woken, next, after_calls}
 use Rattle.agreement.proofs.Bounds.{Steady, closing_replies, next_steady, reached_steady}
@@ -51,21 +48,17 @@ pub record Told (w : World) : Type 0 where
 -- The frame of a byte brings that byte, to the dock
 framed : (d : Dock) (byte : ℕ) → in_range d ≡ true → byte < 256 → (frame_of d (packed_of byte)).dock ≡ closing (took_byte byte d)
 unfolding frame_of took_frame
-framed d byte range small = rw (range, pack_unpack byte small)
+framed d byte range small = grind (arith, pack_unpack)
 
 -- and to the onlooker.
 heard : (w : World) (byte : ℕ) → byte < 256 → (next ours w (Frame (packed_of byte))).onlooker ≡ saw_byte byte w.onlooker
 unfolding next
-heard w byte small = ap (λ u. saw_frame u w.onlooker) (pack_unpack byte small)
+heard w byte small = grind (arith, pack_unpack)
 
 -- 00 asks, where F0 waits, and what is asked is answered.
 which : (d : Dock) → d.rest.waiting ≡ 0xf0 → (took_byte 0 d).rest.replies ≡ replies_of (0xfa ∷ d.rest.mode.set ∷ [])
 unfolding took_byte asked_of valued
-which d waits = ap (λ (command : ℕ). (valued (asked_of command 0) d).rest.replies) waits
-
--- Neither F0 nor 00 chooses a set.
-none_chosen : (command byte set : ℕ) → pick (both (eqb command 0xf0) false) byte set ≡ set
-none_chosen command byte set = rw (both_false (eqb command 0xf0))
+which d waits = grind arith
 
 module _ (w : World) (s : Steady w) where
   -- F0 waits for its value, and the set is as it was.
@@ -74,11 +67,11 @@ module _ (w : World) (s : Steady w) where
 
   waits : (after_f0 w).onlooker.waiting ≡ 0xf0
   unfolding saw_byte waiting_after waits_for_value one_of numbers_from
-  waits = ap (λ (o : Onlooker). o.waiting) (heard w 0xf0 (omega arith))
+  waits = grind (arith, heard)
 
   stays : (after_f0 w).onlooker.set ≡ w.onlooker.set
   unfolding saw_byte set_after sets one_of numbers_from
-  stays = ap (λ (o : Onlooker). o.set) (heard w 0xf0 (omega arith)) ∙ none_chosen w.onlooker.waiting 0xf0 w.onlooker.set
+  stays = grind (arith, heard)
 
   -- 00 has both answers waiting, and ends the wait.
   asked_steady : Steady (asked w)
@@ -95,13 +88,11 @@ module _ (w : World) (s : Steady w) where
 
   over : (asked w).onlooker.waiting ≡ 0
   unfolding saw_byte waiting_after values_for sets one_of numbers_from
-  over = ap (λ (o : Onlooker). o.waiting) (heard (after_f0 w) 0 (omega arith)) ∙ ap (waiting_after 0) waits
+  over = grind (arith, heard)
 
   still : (asked w).onlooker.set ≡ w.onlooker.set
   unfolding saw_byte set_after sets one_of numbers_from
-  still =
-      ap (λ (o : Onlooker). o.set) (heard (after_f0 w) 0 (omega arith))
-      ∙ none_chosen (after_f0 w).onlooker.waiting 0 (after_f0 w).onlooker.set ∙ stays
+  still = grind (arith, heard, stays)
 
   told : Told w
   told =

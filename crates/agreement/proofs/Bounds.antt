@@ -1,10 +1,10 @@
 -- Never more than 16 key bytes and never more than three replies wait: after any calls since power-on, overruns and clearing frames
 -- included. Assumes nothing.
-use mathlib.Core.Path.{◌≡◌, refl}
+use native.Mathlib.Omega.{arith}
+use mathlib.Core.Path.{◌≡◌}
 use mathlib.Core.List.{List, [], ◌∷◌}
 use Prim.Native.Nat.{◌≤◌}
 use lib.ListN.{length}
-use Rattle.basics.proofs.Cases.{picked}
 use Rattle.dock.specs.Closing.{closing}
 use Rattle.queue.specs.Queues.{waiting}
 use Rattle.replies.specs.Replies.{waiting_replies}
@@ -23,7 +23,7 @@ use Rattle.dock.proofs.Arrays.{scan_sized, swap_sized, frame_sized, read_sized, 
 -- The end of a call leaves the replies alone.
 pub closing_replies : (d : Dock) → (closing d).rest.replies ≡ d.rest.replies
 unfolding closing
-closing_replies d = picked (λ (e : Dock). e.rest.replies ≡ d.rest.replies) d.rest.handover _ d refl refl
+closing_replies d = grind arith
 
 -- The dock is sound, and its arrays have their sizes.
 pub record Steady (w : World) : Type 0 where
@@ -61,7 +61,7 @@ keys_counted w s =
     length_waiting d.rest.outgoing.queue (good_keys_queue (keys_of d) (in_range_keys d s.range)) s.settled.ready.places.bytes
 
 pub replies_counted : (w : World) → Steady w → length (waiting_replies w.dock.rest.replies) ≡ w.dock.rest.replies.length
-replies_counted w s = length-waiting_replies w.dock.rest.replies (in_range_replies w.dock s.sound.range) s.sized.replies
+replies_counted w s = grind (arith, length-waiting_replies, in_range_replies)
 
 pub keys_few : (w : World) → Sound w → length (waiting w.dock.rest.outgoing.queue) ≤ 16
 keys_few w s =

@@ -5,17 +5,14 @@ use mathlib.Core.Bool.{Bool, true, false}
 use mathlib.Core.List.{List, []}
 use Prim.Native.Nat.{ℕ, zero, suc, ◌+◌, ◌≤◌, ◌<◌}
 use native.Mathlib.Omega.{arith}
-use borrow.Author.Tests.{eqb-true, eqb-false, eq-eqb}
+use borrow.Author.Tests.{eqb-false}
 use lib.Dec.{eqb}
-use lib.ListN.{length, replicate, drop, length-drop}
-use Rattle.basics.proofs.Cases.{by_cases, picked, never}
-use Rattle.basics.proofs.Flags.{left_of_both, right_of_both}
-use Rattle.keys.specs.Keys.{last_key}
+use lib.ListN.{length, replicate, drop}
+use Rattle.basics.proofs.Cases.{by_cases, never}
 use Rattle.dock.specs.Answers.{Taken}
-use Rattle.dock.specs.Closing.{with_handed, closing}
+use Rattle.dock.specs.Closing.{closing}
 use Rattle.dock.specs.Scan.{quiet}
 use Rattle.dock.specs.Read.{oldest, without_oldest, oldest_reply, replies_behind, remembering, reply_taken, key_byte_taken, read, read_of}
-use Rattle.keying.specs.Handover.{handed_over}
 use Rattle.queue.specs.Queues.{waiting}
 use Rattle.replies.specs.Replies.{waiting_replies}
 use Rattle.queue.proofs.Meaning.{waiting-queue_of}
@@ -40,29 +37,19 @@ still_to_read d = length (waiting_replies d.rest.replies) + to_read (keys_of d)
 -- The end of a call does not make more of it.
 closing_less : (d : Dock) → still_to_read (closing d) ≤ still_to_read d
 unfolding closing
-closing_less d =
-    let handed = handed_less d.rest.mode d.types last_key 1 (omega arith) (omega arith) (keys_of d) in
-    picked (λ (e : Dock). still_to_read e ≤ still_to_read d) d.rest.handover (with_handed d (handed_over (keys_of d) d.rest.mode d.types)) d
-    (omega arith)
-    (omega arith)
+closing_less d = grind (arith, handed_less)
 
 -- Bytes without the oldest are fewer.
 fewer : (l : List ℕ) → 1 ≤ length l → length (drop 1 l) < length l
-fewer l some = omega (arith, length-drop 1 l)
+fewer l some = grind arith
 
 -- Nothing waits in the queue of a quiet dock,
 pub quiet_empty : (d : Dock) → quiet d ≡ true → waiting d.rest.outgoing.queue ≡ []
-quiet_empty d e =
-    let n = d.rest.outgoing.queue.length in
-    none_wait d.rest.outgoing.queue (eqb-true n 0 (right_of_both (eqb d.rest.replies.length 0) (eqb n 0) e))
+quiet_empty d e = grind (arith, none_wait)
 
 -- and no handover is open: one that is has bytes waiting.
 pub quiet_shut : (d : Dock) (scans : List (List ℕ)) → Settled d scans → quiet d ≡ true → d.rest.handover ≡ false
-quiet_shut d scans s e = go d.rest.handover refl
-  where
-    go : (b : Bool) → d.rest.handover ≡ b → b ≡ false
-    go false h = refl
-    go true h = let many = s.waits h in let none = ap length (quiet_empty d e) in absurd (omega arith)
+quiet_shut d scans s e = grind (arith, quiet_empty)
 
 module _ (w : World) (s : Steady w) where
   d : Dock
@@ -93,10 +80,7 @@ module _ (w : World) (s : Steady w) where
   -- and where nothing does, it changes nothing.
   pub read_of_quiet : quiet w.dock ≡ true → (next ours w Read).dock ≡ w.dock
   unfolding d next read_of read closing
-  read_of_quiet e =
-      let none = left_of_both (eqb d.rest.replies.length 0) (eqb d.rest.outgoing.queue.length 0) e in
-      let empty = right_of_both (eqb d.rest.replies.length 0) (eqb d.rest.outgoing.queue.length 0) e in
-      rw (s.sound.range, none, empty, quiet_shut d w.onlooker.scans s.sound.settled e)
+  read_of_quiet e = grind (arith, quiet_shut)
 
 stays_quiet : (n : ℕ) (w : World) → Steady w → quiet w.dock ≡ true → quiet (after_calls ours w (replicate n Read)).dock ≡ true
 unfolding after_calls
@@ -106,10 +90,7 @@ stays_quiet (suc n) w s e = stays_quiet n (next ours w Read) (next_steady w Read
 -- As many reads as there is to read leave nothing waiting.
 reads_all : (n : ℕ) (w : World) → Steady w → still_to_read w.dock ≤ n → quiet (after_calls ours w (replicate n Read)).dock ≡ true
 unfolding after_calls
-reads_all zero w s none =
-    let replies = eq-eqb w.dock.rest.replies.length 0 (omega (arith, replies_counted w s)) in
-    let keys = eq-eqb w.dock.rest.outgoing.queue.length 0 (omega (arith, keys_counted w s.sound)) in
-    rw (replies, keys)
+reads_all zero w s none = grind (arith, replies_counted, keys_counted)
 reads_all (suc n) w s most = go (quiet w.dock) refl (reads_all n (next ours w Read) (next_steady w Read s))
   where
     go : (b : Bool) → quiet w.dock ≡ b
@@ -120,7 +101,7 @@ reads_all (suc n) w s most = go (quiet w.dock) refl (reads_all n (next ours w Re
 
 -- 1019: three replies, 16 key bytes, and eight for each of 125 keys.
 pub enough_reads : (w : World) → Steady w → (n : ℕ) → 1019 ≤ n → quiet (after_calls ours w (replicate n Read)).dock ≡ true
-enough_reads w s n enough = reads_all n w s (omega (arith, keys_few w s.sound, replies_few w s, held_most last_key w.dock.held))
+enough_reads w s n enough = grind (arith, reads_all, keys_few, replies_few, held_most)
 
 -- After any calls,
 pub reads_quieten : (calls : List Call) (n : ℕ) → 1019 ≤ n → quiet (after_calls ours (after_calls ours (woken ours) calls) (replicate n Read)).dock ≡ true

@@ -1,12 +1,9 @@
 -- What is true of a dock and a terminal that follows it. Assumes nothing.
-use mathlib.Core.Path.{◌≡◌, refl}
-use mathlib.Core.Logic.{◌⊎◌, inr, ⊎_elim}
-use mathlib.Core.Bool.{Bool, true, false}
+use mathlib.Core.Path.{◌≡◌}
+use mathlib.Core.Logic.{◌⊎◌}
 use mathlib.Core.List.{[]}
-use Prim.Native.Nat.{ℕ, ◌≤◌}
+use Prim.Native.Nat.{ℕ}
 use native.Mathlib.Omega.{arith}
-use borrow.Author.Tests.{leb-true, leb-false}
-use lib.Dec.{leb}
 use Rattle.basics.proofs.Cases.{picked}
 use Rattle.keys.specs.Keys.{last_key}
 use Rattle.dock.specs.Closing.{with_handed, closing}
@@ -15,7 +12,6 @@ use Rattle.queue.specs.declared.Queue.{Queue}
 use Rattle.queue.specs.Queues.{waiting}
 use Rattle.record.specs.Views.{Keys, keys_of}
 use Rattle.record.specs.declared.Dock.{Dock}
-use Rattle.telling.specs.Agreeing.{NoneOutside, RepeatsHeld}
 use Rattle.telling.proofs.Told.{Told, handed_told}
 use Rattle.terminal.specs.Terminals.{Terminal}
 
@@ -33,17 +29,6 @@ Follows d t = Following d.rest.mode.set d.rest.waiting (keys_of d) t
 pub none_wait : (q : Queue) → q.length ≡ 0 → waiting q ≡ []
 unfolding waiting
 none_wait q e = rw e
-
--- The key that repeats is a key.
-pub repeats_within : (k : Keys) → NoneOutside k.held → RepeatsHeld k → k.repeating ≤ last_key
-repeats_within k out some = go (leb k.repeating last_key) refl
-  where
-    go : (b : Bool) → leb k.repeating last_key ≡ b → k.repeating ≤ last_key
-    go true e = leb-true k.repeating last_key e
-    go false e =
-        ⊎_elim (λ none. omega arith)
-        (λ held. let up = out k.repeating (inr (leb-false k.repeating last_key e)) in omega arith)
-        some
 
 -- The end of every accepted call.
 pub closing_follows : (d : Dock) (t : Terminal) → Follows d t → Follows (closing d) t

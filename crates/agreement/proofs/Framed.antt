@@ -1,15 +1,15 @@
 -- A frame leaves a settled dock settled, with no scan counted since a reset; and unless its byte clears the queue, the terminal goes on
 -- following. Assumes nothing.
 use mathlib.Core.Path.{◌≡◌, refl}
-use mathlib.Core.Logic.{◌⊎◌, inl, inr, ⊎_elim}
+use mathlib.Core.Logic.{inl, ⊎_elim}
 use mathlib.Core.Bool.{Bool, true, false}
 use mathlib.Core.List.{List, [], ◌∷◌}
-use Prim.Native.Nat.{ℕ, ◌≤◌, ◌<◌}
+use Prim.Native.Nat.{ℕ, ◌≤◌}
 use native.Mathlib.Omega.{arith}
-use borrow.Author.Tests.{eqb-true, eqb-false, leb-false}
-use lib.Dec.{eqb, leb}
+use borrow.Author.Tests.{eqb-true, eqb-false}
+use lib.Dec.{eqb}
 use Rattle.std.specs.Prelude.{Result, Ok, Err}
-use Rattle.basics.specs.Choice.{pick, both, either, between}
+use Rattle.basics.specs.Choice.{pick}
 use Rattle.dock.specs.Frame.{took_frame, frame_of}
 use Rattle.frames.specs.declared.FrameError.{FrameError}
 use Rattle.frames.specs.declared.FrameError.TheVariants.{Broken, TooLarge}
@@ -21,28 +21,24 @@ use Rattle.host.specs.Values.{took_byte}
 use Rattle.host.proofs.Ladder.{by_value, by_byte}
 use Rattle.queue.proofs.Meaning.{places-queue_of}
 use Rattle.record.specs.declared.Dock.{Dock}
-use Rattle.record.specs.Views.{contacts_of, keys_of}
 use Rattle.record.specs.Parts.{with_waiting}
 use Rattle.record.specs.Power.{fresh_with}
-use Rattle.range.specs.Range.{takes_value, in_range}
+use Rattle.range.specs.Range.{in_range}
 use Rattle.runs.specs.Clearing.{clears, carries, is_clearing}
 use Rattle.runs.specs.Onlookers.{Onlooker, saw_byte, saw_frame}
 use Rattle.telling.proofs.Held.{none_agree, contact_open}
 use Rattle.basics.proofs.Zeros.{zeros_at}
-use Rattle.basics.proofs.Cases.{picked, neither_first, neither_second, never}
 use Rattle.terminal.specs.Terminals.{Terminal}
 use Rattle.agreement.proofs.Following.{Follows, closing_follows}
-use Rattle.agreement.proofs.Ready.{IsReady, Settled, same_flags, closing_settled}
+use Rattle.agreement.proofs.Ready.{IsReady, Settled, closing_settled}
 
 module _ (scans : List (List ℕ)) where
   -- No key byte waits any more; no key repeats.
   cleared_ready : (d : Dock) → IsReady d scans → IsReady (cleared d) scans
-  cleared_ready d r =
-      same_flags d.map (contacts_of d) (keys_of d) d.rest.handover scans r (keys_of (cleared d)) refl (places-queue_of [] (omega arith)) r.repeats
+  cleared_ready d r = grind (arith, places-queue_of)
 
   unrepeated_ready : (d : Dock) → IsReady d scans → IsReady (unrepeated d) scans
-  unrepeated_ready d r =
-      same_flags d.map (contacts_of d) (keys_of d) d.rest.handover scans r (keys_of (unrepeated d)) refl r.places.bytes (inl refl)
+  unrepeated_ready d r = grind arith
 
 -- The dock after a reset.
 fresh_ready : (d : Dock) (scans : List (List ℕ)) → IsReady d scans → IsReady (restarted d) []
@@ -97,19 +93,7 @@ frame_settled d o number range s = rw range (go (unpacked_of number))
 -- A byte that does not clear the queue is none of the commands that do something.
 pub mild : (byte : ℕ) → clears byte ≡ false → Mild byte
 unfolding clears
-mild byte c =
-    let inside = between 0xf4 0xfd byte in
-    let rest = neither_second (eqb byte 0xf0) (either inside (eqb byte 0xff)) c in
-    record {
-      not_f0 = eqb-false byte 0xf0 (neither_first (eqb byte 0xf0) (either inside (eqb byte 0xff)) c);
-      apart = go (leb 0xf4 byte) (leb byte 0xfd) refl refl (neither_first inside (eqb byte 0xff) rest);
-      not_ff = eqb-false byte 0xff (neither_second inside (eqb byte 0xff) rest);
-    }
-  where
-    go : (low high : Bool) → leb 0xf4 byte ≡ low → leb byte 0xfd ≡ high → both low high ≡ false → (byte < 0xf4) ⊎ (0xfd < byte)
-    go false high l h none = inl (leb-false 0xf4 byte l)
-    go true false l h none = inr (leb-false byte 0xfd h)
-    go true true l h none = never true refl none
+mild byte c = grind arith
 
 -- A mild command changes nothing.
 pub obeyed_mild : (byte : ℕ) (d : Dock) → Mild byte → obeyed byte d ≡ d
@@ -128,13 +112,7 @@ obeyed_mild byte d m =
 module _ (d : Dock) (t : Terminal) (f : Follows d t) (byte : ℕ) where
   commanded_follows : Mild byte → Follows (commanded byte d) t
   unfolding commanded
-  commanded_follows m =
-      rw (obeyed_mild byte d m)
-      (record {
-        chosen = f.chosen;
-        firm = picked (λ (n : ℕ). n ≡ 0xf0 → ⊥) (takes_value byte) byte 0 m.not_f0 (λ e. omega arith);
-        told = f.told;
-      })
+  commanded_follows m = grind (arith, obeyed_mild)
 
   -- Any byte; of the values only that of F0 chooses a set.
   took_follows : clears byte ≡ false → Follows (took_byte byte d) t

@@ -3,42 +3,36 @@
 use mathlib.Core.Path.{◌≡◌, refl}
 use mathlib.Core.Bool.{true, false}
 use mathlib.Core.List.{List}
-use Prim.Native.Nat.{ℕ, zero, suc, ◌+◌, ◌≤◌}
+use Prim.Native.Nat.{ℕ, zero, suc, ◌≤◌}
 use native.Mathlib.Omega.{arith}
-use borrow.Author.Tests.{eq-eqb, ne_eqb, leb-false, lt-ltb}
-use lib.ListN.{length, get_or}
+use lib.ListN.{get_or}
 use Rattle.basics.proofs.Cases.{never}
-use Rattle.codes.specs.declared.Action.TheVariants.{Release}
 use Rattle.keying.specs.Handover.{Handed, can_leave, handed_from}
-use Rattle.queue.specs.Queues.{waiting}
 use Rattle.record.specs.declared.Mode.{Mode}
 use Rattle.record.specs.Views.{Keys}
 use Rattle.runs.specs.Machines.{lowest_from, finds_no_room}
-use Rattle.sending.specs.Sending.{sends}
 use Rattle.telling.proofs.Handing.{held_up, passed, passed_gone, step}
 
 -- Where no key is held, none is the lowest.
 pub none_lowest : (n key : ℕ) (held : List ℕ) → ((j : ℕ) → get_or held j 0 ≡ 0) → lowest_from n key held ≡ 0
 unfolding lowest_from
 none_lowest zero key held none = refl
-none_lowest (suc n) key held none = rw (eq-eqb (get_or held key 0) 0 (none key)) (none_lowest n (suc key) held none)
+none_lowest (suc n) key held none = grind (arith, none_lowest n (suc key) held none)
 
 -- A key that is not held is not the lowest, and one that is held is, if it is the first that is looked at.
 lowest_behind : (n key : ℕ) (held : List ℕ) → get_or held key 0 ≡ 0 → lowest_from (suc n) key held ≡ lowest_from n (suc key) held
 unfolding lowest_from
-lowest_behind n key held down = rw (eq-eqb (get_or held key 0) 0 down)
+lowest_behind n key held down = grind arith
 
 lowest_here : (n key : ℕ) (held : List ℕ) → (get_or held key 0 ≡ 0 → ⊥) → lowest_from (suc n) key held ≡ key
 unfolding lowest_from
-lowest_here n key held up = rw (ne_eqb (get_or held key 0) 0 up)
+lowest_here n key held up = grind arith
 
 module _ (m : Mode) (types : List ℕ) where
   -- A key that cannot leave finds no room.
   no_room : (k : Keys) (key : ℕ) → 1 ≤ key → can_leave k m types key ≡ false → finds_no_room k m types key ≡ true
   unfolding finds_no_room
-  no_room k key some stuck =
-      let bytes = length (waiting k.queue) + length (sends k m (get_or types key 0) key Release) in
-      rw (ne_eqb key 0 (λ e. omega arith)) (lt-ltb 16 bytes (leb-false bytes 16 stuck))
+  no_room k key some stuck = grind arith
 
   -- A handover that stops does so at the lowest key that is held, for want of room.
   pub handed_stuck : (n key : ℕ) (k : Keys) → 1 ≤ key → (handed_from n key k m types).unfinished ≡ true

@@ -1,17 +1,16 @@
 -- A scan overruns the queue exactly if what waits and what its events send are more than 16 bytes together. Assumes nothing.
 use mathlib.Core.Path.{◌≡◌, refl, ap, ◌∙◌}
-use mathlib.Core.Bool.{Bool, true, false, not}
-use mathlib.Core.List.{List, []}
+use mathlib.Core.Bool.{Bool, true, false}
+use mathlib.Core.List.{List}
 use Prim.Native.Nat.{ℕ, zero, suc, ◌+◌, ◌≤◌}
 use native.Mathlib.Omega.{arith}
-use borrow.Author.Tests.{le-leb, le-ltb, ltb-false}
-use lib.Dec.{eqb, ltb}
-use lib.ListN.{length, get_or, length-append}
-use Rattle.basics.specs.Choice.{pick, both}
+use borrow.Author.Tests.{le-ltb, ltb-false}
+use lib.Dec.{ltb}
+use lib.ListN.{length, length-append}
+use Rattle.basics.specs.Choice.{both}
 use Rattle.basics.specs.Lists.{all_up_to}
 use Rattle.basics.proofs.Cases.{neither, never}
 use Rattle.contacts.specs.Counts.{counted_of}
-use Rattle.contacts.specs.Scans.{contact}
 use Rattle.dock.specs.Scan.{is_counted}
 use Rattle.keying.specs.Changes.{turns_to}
 use Rattle.keying.specs.Repeat.{ticked}
@@ -19,15 +18,14 @@ use Rattle.keying.proofs.Good.{turns_good}
 use Rattle.keying.proofs.Places.{turns_bytes}
 use Rattle.keys.specs.Keys.{last_key}
 use Rattle.queue.specs.declared.Queue.{Queue}
-use Rattle.queue.specs.Queues.{waiting, has_room}
+use Rattle.queue.specs.Queues.{waiting}
 use Rattle.queue.proofs.Meaning.{tidy_short, length_waiting}
 use Rattle.range.specs.Range.{good_mode, good_keys}
 use Rattle.range.proofs.Ranges.{good_keys_queue}
 use Rattle.record.specs.declared.Mode.{Mode}
 use Rattle.record.specs.Views.{Keys, contacts_of, keys_of}
 use Rattle.record.specs.declared.Dock.{Dock}
-use Rattle.sending.specs.Sending.{sends}
-use Rattle.telling.specs.Overruns.{action_to, lacks_room, overruns_at, overruns_to}
+use Rattle.telling.specs.Overruns.{lacks_room, overruns_at, overruns_to}
 use Rattle.telling.specs.Queued.{move_bytes, turn_bytes_at, turn_bytes}
 use Rattle.telling.proofs.Whole.{turns_whole}
 
@@ -45,16 +43,7 @@ module _ (m : Mode) (types map was is : List ℕ) where
   turn_fits : (position : ℕ) (k : Keys) → length (waiting k.queue) + length (turn_bytes_at m types map was is position k) ≤ 16
       → overruns_at m types map was is position k ≡ false
   unfolding turn_bytes_at move_bytes overruns_at lacks_room
-  turn_fits position k = go (eqb (contact was position) (contact is position)) (eqb (get_or map position 0) 0)
-    where
-      bytes : List ℕ
-      bytes = sends k m (get_or types (get_or map position 0) 0) (get_or map position 0) (action_to (contact is position))
-
-      go : (still none : Bool) → length (waiting k.queue) + length (pick still [] (pick none [] bytes)) ≤ 16
-          → both (not still) (both (not none) (not (has_room (waiting k.queue) (length bytes)))) ≡ false
-      go true none room = refl
-      go false true room = refl
-      go false false room = rw (le-leb (length (waiting k.queue) + length bytes) 16 room)
+  turn_fits position k = grind arith
 
   -- So do all of them, if they do together.
   pub turns_fit : (n : ℕ) (k : Keys) → length (waiting k.queue) + length (turn_bytes n m types map was is k) ≤ 16

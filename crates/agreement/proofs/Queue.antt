@@ -8,32 +8,27 @@ use Prim.Native.Nat.{ℕ, ◌≤◌}
 use native.Mathlib.Omega.{arith}
 use borrow.Author.Tests.{eqb-false, not-true}
 use lib.ListN.{length, get_or, drop}
-use Rattle.std.specs.Prelude.{Result, Ok, Err}
 use Rattle.basics.specs.Choice.{pick, either}
 use Rattle.basics.proofs.Flags.{left_of_both, right_of_both}
 use Rattle.dock.specs.Answers.{Answered, Taken, is_accepted}
 use Rattle.dock.specs.Swap.{opened, remapped, swapped, swap_of}
 use Rattle.dock.specs.Frame.{took_frame, frame_of}
 use Rattle.dock.specs.Read.{oldest, without_oldest, oldest_reply, replies_behind, remembering, reply_taken, key_byte_taken, read_of}
-use Rattle.frames.specs.declared.FrameError.{FrameError}
-use Rattle.frames.specs.declared.FrameError.TheVariants.{Broken, TooLarge}
-use Rattle.frames.specs.Frames.{unpacked_of}
-use Rattle.commands.specs.Commands.{replying, commanded}
+use Rattle.commands.specs.Commands.{commanded}
 use Rattle.host.specs.Values.{took_byte}
 use Rattle.host.proofs.Ladder.{by_value, by_byte}
 use Rattle.queue.specs.Queues.{waiting}
 use Rattle.queue.proofs.Meaning.{waiting-queue_of}
-use Rattle.record.specs.Views.{Keys, keys_of, with_queue}
+use Rattle.record.specs.Views.{keys_of, with_queue}
 use Rattle.record.specs.Parts.{with_keys, with_replies}
 use Rattle.record.specs.declared.Dock.{Dock}
 use Rattle.range.specs.Range.{in_range}
-use Rattle.dock.specs.Calls.{Call, Scan, Swap, Frame, Read, as_bytes}
-use Rattle.runs.specs.Clearing.{clears, carries, is_clearing, is_clearing_call}
+use Rattle.dock.specs.Calls.{Call, Scan, Swap, Frame, Read}
+use Rattle.runs.specs.Clearing.{clears, is_clearing, is_clearing_call}
 use Rattle.runs.specs.Machines.{ours}
 use Rattle.runs.specs.Worlds.{World, woken, next, after_calls}
 use Rattle.runs.specs.Runs.{overruns_in, undisturbed}
-use Rattle.runs.specs.Bytes.{closing_bytes, frame_bytes, read_bytes, queued_by, key_bytes_of, given_by, queued_in, given_in}
-use Rattle.basics.proofs.Cases.{picked, neither_first}
+use Rattle.runs.specs.Bytes.{closing_bytes, read_bytes, queued_by, key_bytes_of, given_by, queued_in, given_in}
 use Rattle.agreement.proofs.Framed.{mild, obeyed_mild}
 use Rattle.agreement.proofs.Taken.{some_wait}
 use Rattle.agreement.proofs.AnyCalls.{Sound, same_overrun, woken_sound, any_sound}
@@ -44,7 +39,7 @@ module _ (d : Dock) where
   -- A swap by itself queues nothing.
   remapped_bytes : (map : List ℕ) → bytes_of (remapped d map) ≡ bytes_of d
   unfolding remapped opened
-  remapped_bytes map = picked (λ (e : Dock). bytes_of e ≡ bytes_of d) d.rest.handover _ _ refl refl
+  remapped_bytes map = grind arith
 
   swap_bytes : (map : List ℕ) → bytes_of (swap_of d map).dock ≡ bytes_of d ++ queued_by d (Swap map)
   unfolding swapped
@@ -65,15 +60,7 @@ module _ (d : Dock) where
   frame_bytes_lem : (number : ℕ) → in_range d ≡ true → is_clearing number ≡ false
       → bytes_of (frame_of d number).dock ≡ bytes_of d ++ queued_by d (Frame number)
   unfolding frame_of took_frame is_clearing closing_bytes
-  frame_bytes_lem number range = rw range (go (unpacked_of number))
-    where
-      go : (u : Result ℕ FrameError) → carries clears u ≡ false
-          → bytes_of (took_frame u d).dock ≡ bytes_of d ++ pick (is_accepted (took_frame u d).answer) (frame_bytes u d) []
-      go (Ok byte) mildly =
-          let then = took_byte byte d in
-          closing_bytes_lem then ∙ ap (λ (k : Keys). waiting k.queue ++ closing_bytes then) (took_keys byte mildly)
-      go (Err Broken) mildly = closing_bytes_lem (replying (0xfe ∷ []) d)
-      go (Err TooLarge) mildly = sym (append-nil (bytes_of d))
+  frame_bytes_lem number range = grind (arith, closing_bytes_lem, took_keys, append-nil)
 
 -- Some bytes are the first and the rest.
 first_and_rest : (l : List ℕ) → 1 ≤ length l → l ≡ get_or l 0 0 ∷ drop 1 l
@@ -101,10 +88,9 @@ read_bytes_lem w s =
 pub call_keeps_bytes : (w : World) (call : Call) → Sound w → either (is_clearing_call call) (overruns_in w call) ≡ false
     → waiting w.dock.rest.outgoing.queue ++ queued_by w.dock call ≡ given_by w.dock call ++ waiting (next ours w call).dock.rest.outgoing.queue
 unfolding next
-call_keeps_bytes w (Scan scan) s calm = sym (scan_bytes_lem w.dock (as_bytes scan) s.range (sym (same_overrun w s scan) ∙ calm))
+call_keeps_bytes w (Scan scan) s calm = grind (arith, scan_bytes_lem, same_overrun)
 call_keeps_bytes w (Swap map) s calm = sym (swap_bytes w.dock map)
-call_keeps_bytes w (Frame number) s calm =
-    sym (frame_bytes_lem w.dock number s.range (neither_first (is_clearing_call (Frame number)) false calm))
+call_keeps_bytes w (Frame number) s calm = grind (arith, frame_bytes_lem)
 call_keeps_bytes w Read s calm = read_bytes_lem w s
 
 -- Any calls.
@@ -130,4 +116,4 @@ bytes_kept (call ∷ calls) w s calm =
 pub bytes_kept_since : (earlier calls : List Call) → undisturbed ours (after_calls ours (woken ours) earlier) calls ≡ true
     → waiting (after_calls ours (woken ours) earlier).dock.rest.outgoing.queue ++ queued_in (after_calls ours (woken ours) earlier) calls
     ≡ given_in (after_calls ours (woken ours) earlier) calls ++ waiting (after_calls ours (after_calls ours (woken ours) earlier) calls).dock.rest.outgoing.queue
-bytes_kept_since earlier calls calm = bytes_kept calls (after_calls ours (woken ours) earlier) (any_sound earlier (woken ours) woken_sound) calm
+bytes_kept_since earlier calls calm = grind (arith, bytes_kept, any_sound, woken_sound)

@@ -1,24 +1,18 @@
 -- What the end of a call and what a scan put into the queue goes behind the bytes that wait, unless the scan overruns it. Assumes nothing.
-use mathlib.Core.Path.{◌≡◌, sym, ap, ◌∙◌}
+use native.Mathlib.Omega.{arith}
+use mathlib.Core.Path.{◌≡◌, ap, ◌∙◌}
 use mathlib.Core.Bool.{Bool, true, false, not}
 use mathlib.Core.List.{List, [], ◌++◌, append-nil, append_assoc}
 use Prim.Native.Nat.{ℕ}
-use borrow.Author.Tests.{eqb-true}
 use lib.Dec.{eqb}
-use lib.ListN.{length, get_or}
+use lib.ListN.{length}
 use Rattle.basics.specs.Choice.{pick, both}
-use Rattle.basics.proofs.Flags.{right_of_both}
-use Rattle.keys.specs.Keys.{last_key}
-use Rattle.codes.specs.Codes.{may_repeat}
 use Rattle.phantom.specs.Phantom.{is_phantom}
 use Rattle.contacts.specs.Counts.{counted_of}
-use Rattle.std.specs.Prelude.{Ok, Err}
-use Rattle.dock.specs.declared.Refusal.TheVariants.{ScanLength}
-use Rattle.dock.specs.Answers.{is_accepted, answered}
+use Rattle.dock.specs.Answers.{is_accepted}
 use Rattle.dock.specs.Closing.{closing}
-use Rattle.dock.specs.Scan.{listening, is_counted, counting, changed, quiet, repeating, heard_scan, scanned, scan_of}
-use Rattle.keying.specs.Repeat.{ticked, is_due, repeated}
-use Rattle.queue.specs.declared.Queue.{Queue}
+use Rattle.dock.specs.Scan.{is_counted, counting, changed, quiet, repeating, heard_scan, scanned, scan_of}
+use Rattle.keying.specs.Repeat.{ticked, repeated}
 use Rattle.queue.specs.Queues.{waiting}
 use Rattle.queue.proofs.Meaning.{waiting-queue_of}
 use Rattle.record.specs.declared.Mode.{Mode}
@@ -28,7 +22,6 @@ use Rattle.record.specs.declared.Dock.{Dock}
 use Rattle.range.specs.Range.{in_range}
 use Rattle.runs.specs.Bytes.{repeat_bytes, change_bytes, heard_bytes, closing_bytes, scan_bytes}
 use Rattle.telling.specs.Queued.{turn_bytes}
-use Rattle.basics.proofs.Cases.{two_by_cases}
 use Rattle.telling.proofs.Whole.{turns_whole, handed_whole}
 use Rattle.agreement.proofs.Overrunning.{changes_overrun, scan_overruns}
 use Rattle.agreement.proofs.Following.{none_wait}
@@ -40,32 +33,17 @@ bytes_of d = waiting d.rest.outgoing.queue
 -- The end of a call.
 pub closing_bytes_lem : (d : Dock) → bytes_of (closing d) ≡ bytes_of d ++ closing_bytes d
 unfolding closing closing_bytes
-closing_bytes_lem d =
-    two_by_cases (λ (e : Dock) (bytes : List ℕ). bytes_of e ≡ bytes_of d ++ bytes) d.rest.handover _ _ _ _
-    (λ opened. handed_whole d.rest.mode d.types last_key 1 (keys_of d))
-    (λ shut. sym (append-nil (bytes_of d)))
+closing_bytes_lem d = grind (arith, handed_whole, append-nil)
 
 -- A repeat is sent only where nothing waits.
 repeated_bytes : (m : Mode) (types : List ℕ) (k : Keys) (quiet : Bool) → (quiet ≡ true → waiting k.queue ≡ [])
     → waiting (repeated k m types quiet).queue ≡ waiting k.queue ++ repeat_bytes k m types quiet
 unfolding repeated repeat_bytes
-repeated_bytes m types k quiet none =
-    let Grown : Keys → List ℕ → Type 0 = λ (e : Keys) (bytes : List ℕ). waiting e.queue ≡ waiting k.queue ++ bytes in
-    let same : waiting k.queue ≡ waiting k.queue ++ [] = sym (append-nil (waiting k.queue)) in
-    two_by_cases Grown (is_due k) _ _ _ _
-    (λ due. two_by_cases Grown (may_repeat m.set k.repeating (get_or types k.repeating 0)) _ _ _ _
-    (λ may. two_by_cases (λ (q : Queue) (bytes : List ℕ). waiting q ≡ waiting k.queue ++ bytes) quiet _ _ _ _
-    (λ now. rw (none now) (waiting-queue_of _))
-    (λ later. same))
-    (λ stops. same))
-    (λ not-due. same)
+repeated_bytes m types k quiet none = grind (arith, append-nil, waiting-queue_of)
 
 repeating_bytes : (d : Dock) → bytes_of (repeating d) ≡ bytes_of d ++ repeat_bytes (keys_of d) d.rest.mode d.types (quiet d)
 unfolding repeating
-repeating_bytes d =
-    let q = d.rest.outgoing.queue in
-    repeated_bytes d.rest.mode d.types (keys_of d) (quiet d)
-    (λ e. none_wait q (eqb-true q.length 0 (right_of_both (eqb d.rest.replies.length 0) (eqb q.length 0) e)))
+repeating_bytes d = grind (arith, repeated_bytes, none_wait)
 
 module _ (d : Dock) (scan : List ℕ) where
   still : Dock
@@ -94,22 +72,10 @@ module _ (d : Dock) (scan : List ℕ) where
 
   scanned_bytes : scan_overruns d scan ≡ false → bytes_of (scanned d scan) ≡ bytes_of d ++ scan_bytes d scan
   unfolding scanned scan_bytes scan_overruns is_counted
-  scanned_bytes = go (listening d)
-    where
-      go : (hears : Bool) → both (both hears (not (is_phantom scan))) (changes_overrun d scan) ≡ false
-          → bytes_of (pick hears (heard_scan d scan) (closing d)) ≡ bytes_of d ++ pick hears (heard_bytes d scan) (closing_bytes d)
-      go true room = heard_bytes_lem room
-      go false room = closing_bytes_lem d
+  scanned_bytes = grind (arith, heard_bytes_lem, closing_bytes_lem)
 
   -- The call, refused or not.
   pub scan_bytes_lem : in_range d ≡ true → both (eqb (length scan) 18) (scan_overruns d scan) ≡ false
       → bytes_of (scan_of d scan).dock ≡ bytes_of d ++ pick (is_accepted (scan_of d scan).answer) (scan_bytes d scan) []
   unfolding scan_of
-  scan_bytes_lem range = rw range (go (eqb (length scan) 18))
-    where
-      go : (whole : Bool) → both whole (scan_overruns d scan) ≡ false
-          → bytes_of (pick whole (answered (Ok tt) (scanned d scan)) (answered (Err ScanLength) d)).dock
-          ≡ bytes_of d
-          ++ pick (is_accepted (pick whole (answered (Ok tt) (scanned d scan)) (answered (Err ScanLength) d)).answer) (scan_bytes d scan) []
-      go true room = scanned_bytes room
-      go false room = sym (append-nil (bytes_of d))
+  scan_bytes_lem range = grind (arith, scanned_bytes, append-nil)

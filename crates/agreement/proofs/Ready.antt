@@ -19,7 +19,7 @@ use Rattle.queue.specs.Queues.{waiting}
 use Rattle.record.specs.Views.{Keys, contacts_of, keys_of}
 use Rattle.record.specs.declared.Dock.{Dock}
 use Rattle.telling.specs.Agreeing.{Agrees, EachOnce, NoneOutside, RepeatsHeld}
-use Rattle.basics.proofs.Cases.{by_cases, never}
+use Rattle.basics.proofs.Cases.{by_cases}
 use Rattle.telling.proofs.Held.{none_agree, contact_open}
 use Rattle.telling.proofs.Handing.{handed_outside, handed_all, handed_waits}
 use Rattle.telling.proofs.Repeating.{handed_repeat}
@@ -48,24 +48,8 @@ pub record Settled (d : Dock) (scans : List (List ℕ)) : Type 0 where
   pub waits : d.rest.handover ≡ true → 9 ≤ length (waiting d.rest.outgoing.queue)
   pub left : d.rest.handover ≡ true → key_left d ≡ true
 
--- Other keys with the same flags will do.
-pub same_flags : (map : List ℕ) (contacts : Contacts) (k : Keys) (handover : Bool) (scans : List (List ℕ)) → Ready map contacts k handover scans
-    → (l : Keys) → l.held ≡ k.held → length l.queue.bytes ≡ 16 → RepeatsHeld l → Ready map contacts l handover scans
-same_flags map contacts k handover scans r l same bytes repeats =
-    record {
-      long = r.long;
-      entries = r.entries;
-      single = r.single;
-      places = record { flags = rw same r.places.flags; bytes = bytes };
-      outside = rw same r.outside;
-      repeats = repeats;
-      seen = r.seen;
-      agree = λ shut. rw same (r.agree shut);
-      anew = r.anew;
-    }
-
 pub at_once : (map : List ℕ) → length map ≡ 144 → has_double map ≡ false → EachOnce map
-at_once map long single p q hp hq same some = one_place map single p q (omega arith) (omega arith) same some
+at_once map long single p q hp hq same some = grind (arith, one_place)
 
 -- Contacts of which no scan says anything are open.
 all_open : (contacts : Contacts) (scans : List (List ℕ)) → contacts ≡ counted_all unseen scans → scans ≡ []
@@ -76,8 +60,7 @@ all_open contacts scans seen none position h =
 
 -- With no handover open a dock that is ready is settled.
 pub shut_settled : (d : Dock) (scans : List (List ℕ)) → d.rest.handover ≡ false → IsReady d scans → Settled d scans
-shut_settled d scans shut r =
-    record { ready = r; waits = λ opened. never d.rest.handover opened shut; left = λ opened. never d.rest.handover opened shut }
+shut_settled d scans shut r = grind arith
 
 -- Every accepted call ends so that the dock is settled.
 pub closing_settled : (d : Dock) (scans : List (List ℕ)) → IsReady d scans → Settled (closing d) scans

@@ -1,6 +1,6 @@
 -- The dock goes by the rules as the onlooker knows them: its phantom test, the commands that wait for a value, the values that are right,
 -- and the set are his. Assumes nothing.
-use mathlib.Core.Path.{◌≡◌, refl, sym, ap, ap₂, ◌∙◌}
+use mathlib.Core.Path.{◌≡◌, refl, sym, ap, ◌∙◌}
 use mathlib.Core.Bool.{Bool, true, false, not}
 use mathlib.Core.Logic.{dite}
 use mathlib.Core.List.{List, [], ◌∷◌, map}
@@ -8,14 +8,14 @@ use Prim.Native.Nat.{ℕ, zero, suc, ◌+◌, ◌*◌, ◌-◌, ◌/◌, ◌%◌
 use native.Mathlib.Decide.{ℕ_discrete}
 use native.Mathlib.Nat.{zero-add}
 use native.Mathlib.Omega.{arith}
-use borrow.Author.Tests.{eq-eqb, ne_eqb, leb-true, leb-false, le-leb}
+use borrow.Author.Tests.{eq-eqb, ne_eqb, le-leb}
 use lib.Bits.{bit_and, and_shr, and_mod, and_lt}
 use lib.Count.{ones, ones_in}
-use lib.Dec.{T, eqb, leb, eqb→eq}
+use lib.Dec.{T, eqb, leb}
 use lib.ListN.{take, drop}
 use Rattle.basics.specs.Choice.{pick, both, either, between}
 use Rattle.basics.proofs.Cases.{two_by_cases}
-use Rattle.basics.proofs.Tables.{values_below, alike_below, both_left, both_right}
+use Rattle.basics.proofs.Tables.{values_below, alike_below, both_right}
 use Rattle.std.specs.Prelude.{Option, Some, None}
 use Rattle.host.specs.declared.values.Asked.{Asked}
 use Rattle.host.specs.declared.values.Asked.TheVariants.{Indicators, Set, WhichSet, Rate, KeyType}
@@ -49,7 +49,7 @@ closed_rows (suc row) column = closed_rows row column + closed_in column row
 common_rows : (n x y : ℕ) → in_common n x y ≡ closed_rows n (bit_and x y)
 unfolding in_common closed_rows
 common_rows zero x y = refl
-common_rows (suc row) x y = ap₂ (λ (a b : ℕ). a + b) (common_rows row x y) (sym (row_and x y row))
+common_rows (suc row) x y = grind (arith, common_rows row x y, row_and)
 
 -- Eight rows are all that a byte has: computed over the 256 of them.
 all_rows : values_below (closed_rows 8) 256 ≡ values_below ones 256
@@ -62,13 +62,12 @@ common_ones x y h l = common_rows 8 x y ∙ alike_below (closed_rows 8) ones 256
 shares_same : (x : ℕ) (scan : List ℕ) → x < 256 → shares_two x (as_bytes scan) ≡ shares_any x (as_bytes scan)
 unfolding shares_two shares_any
 shares_same x [] h = refl
-shares_same x (y ∷ ys) h =
-    ap₂ (λ (a b : Bool). either a b) (ap (λ (n : ℕ). leb 2 n) (common_ones x (y % 256) h (omega arith))) (shares_same x ys h)
+shares_same x (y ∷ ys) h = grind (arith, shares_same x ys h, common_ones)
 
 pub phantom_same : (scan : List ℕ) → looks_phantom (as_bytes scan) ≡ is_phantom (as_bytes scan)
 unfolding looks_phantom is_phantom
 phantom_same [] = refl
-phantom_same (x ∷ xs) = ap₂ (λ (a b : Bool). either a b) (shares_same (x % 256) xs (omega arith)) (phantom_same xs)
+phantom_same (x ∷ xs) = grind (arith, phantom_same xs, shares_same)
 
 -- A number is one of n from a first one on if it is in their range, and else it is none.
 in_numbers : (x n first : ℕ) → first ≤ x → x < first + n → one_of x (numbers_from first n) ≡ true
@@ -84,26 +83,20 @@ in_numbers x (suc n) first low high = go (ℕ_discrete x first) (λ h. in_number
 not_below : (x n first : ℕ) → x < first → one_of x (numbers_from first n) ≡ false
 unfolding one_of numbers_from
 not_below x zero first low = refl
-not_below x (suc n) first low = rw (ne_eqb x first (λ e. omega arith)) (not_below x n (suc first) (omega arith))
+not_below x (suc n) first low = grind (arith, not_below x n (suc first) (omega arith))
 
 not_above : (x n first : ℕ) → first + n ≤ x → one_of x (numbers_from first n) ≡ false
 unfolding one_of numbers_from
 not_above x zero first high = refl
-not_above x (suc n) first high = rw (ne_eqb x first (λ e. omega arith)) (not_above x n (suc first) (omega arith))
+not_above x (suc n) first high = grind (arith, not_above x n (suc first) (omega arith))
 
 among_numbers : (x n first : ℕ) → one_of x (numbers_from first (suc n)) ≡ between first (first + n) x
-among_numbers x n first = go (leb first x) refl (leb x (first + n)) refl
-  where
-    go : (low : Bool) → leb first x ≡ low → (high : Bool) → leb x (first + n) ≡ high → one_of x (numbers_from first (suc n)) ≡ both low high
-    go true l true h = in_numbers x (suc n) first (leb-true first x l) (omega (arith, leb-true x (first + n) h))
-    go true l false h = not_above x (suc n) first (omega (arith, leb-false x (first + n) h))
-    go false l high h = not_below x (suc n) first (leb-false first x l)
+among_numbers x n first = grind (arith, in_numbers, not_above, not_below)
 
 -- The commands that wait for a value.
 pub waits_same : (byte : ℕ) → waits_for_value byte ≡ takes_value byte
 unfolding waits_for_value one_of
-waits_same byte =
-    ap (λ (b : Bool). either (eqb byte 0xed) (either (eqb byte 0xf0) (either (eqb byte 0xf3) b))) (among_numbers byte 2 0xfb)
+waits_same byte = grind (arith, among_numbers)
 
 -- None of these rows has a code in set 3, and so none is found there for a code.
 unfoldable uncoded : List Row → Bool
@@ -113,28 +106,15 @@ uncoded (r ∷ rs) = both (eqb r.2 0) (uncoded rs)
 none_found : (value : ℕ) → (value ≡ 0 → ⊥) → (rs : List Row) (key : ℕ) → T (uncoded rs) → first_with 3 value key rs ≡ 0
 unfolding uncoded first_with
 none_found value some [] key t = refl
-none_found value some (r ∷ rs) key t =
-    let none : r.2 ≡ 0 = eqb→eq r.2 0 (both_left (eqb r.2 0) (uncoded rs) t) in
-    go (eqb r.2 value) (ne_eqb r.2 value (λ e. some (sym e ∙ none)))
-    (none_found value some rs (suc key) (both_right (eqb r.2 0) (uncoded rs) t))
-  where
-    go : (own : Bool) → own ≡ false → first_with 3 value (suc key) rs ≡ 0
-        → ◌≡◌ {A = ℕ} (elim own [ true ↦ key | false ↦ first_with 3 value (suc key) rs ]) 0
-    go own e later = rw e later
+none_found value some (r ∷ rs) key t = grind (arith, none_found value some rs (suc key) (both_right (eqb r.2 0) (uncoded rs) t))
 
 -- The codes of set 3 are those that some key has: the first n rows are those with a code.
 codes_same : (value : ℕ) → (value ≡ 0 → ⊥) → (n : ℕ) (rs : List Row) (key : ℕ) → T (uncoded (drop n rs))
     → one_of value (map (λ (r : Row). r.2) (take n rs)) ≡ not (eqb (first_with 3 value (suc key) rs) 0)
 unfolding one_of first_with
-codes_same value some zero rs key t = rw (none_found value some rs (suc key) t)
+codes_same value some zero rs key t = grind (arith, none_found)
 codes_same value some (suc n) [] key t = refl
-codes_same value some (suc n) (r ∷ rs) key t = go (ℕ_discrete value r.2) (codes_same value some n rs (suc key) t)
-  where
-    go : Dec (value ≡ r.2) → one_of value (map (λ (r : Row). r.2) (take n rs)) ≡ not (eqb (first_with 3 value (suc (suc key)) rs) 0)
-        → either (eqb value r.2) (one_of value (map (λ (r : Row). r.2) (take n rs)))
-        ≡ not (eqb (elim (eqb r.2 value) [ true ↦ suc key | false ↦ first_with 3 value (suc (suc key)) rs ]) 0)
-    go (yes e) later = rw (eq-eqb value r.2 e, eq-eqb r.2 value (sym e), ne_eqb (suc key) 0 (λ z. omega arith))
-    go (no e) later = rw (ne_eqb value r.2 e, ne_eqb r.2 value (λ f. e (sym f))) later
+codes_same value some (suc n) (r ∷ rs) key t = grind (arith, codes_same value some n rs (suc key) t)
 
 media_uncoded : T (uncoded (drop 104 rows))
 unfolding uncoded rows

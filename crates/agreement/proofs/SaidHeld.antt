@@ -9,7 +9,7 @@ use borrow.Author.Tests.{eqb-true, ne_eqb, not-false}
 use lib.Dec.{eqb}
 use lib.ListN.{length, get_or, replicate}
 use Rattle.basics.specs.Choice.{both, either}
-use Rattle.basics.proofs.Cases.{neither, either_true}
+use Rattle.basics.proofs.Cases.{neither}
 use Rattle.basics.proofs.Flags.{left_of_both, right_of_both, both_false}
 use Rattle.contacts.specs.Counts.{Contacts}
 use Rattle.contacts.specs.Scans.{contact}
@@ -91,7 +91,7 @@ none_held d scans r shut none (suc key) =
 pub no_scan_says : (position : ℕ) (map : List ℕ) → none_held_from position map [] ≡ true
 unfolding none_held_from shown_at says_closed
 no_scan_says position [] = refl
-no_scan_says position (key ∷ keys) = rw (either_true (eqb key 0)) (no_scan_says (suc position) keys)
+no_scan_says position (key ∷ keys) = grind (arith, no_scan_says (suc position) keys)
 
 -- A list with 0 at each place is zeros.
 pub zeros_by_place : (l : List ℕ) → ((i : ℕ) → get_or l i 0 ≡ 0) → l ≡ replicate (length l) 0

@@ -3,22 +3,19 @@ use mathlib.Core.Path.{◌≡◌, refl, sym, ap, ◌∙◌}
 use mathlib.Core.Bool.{Bool, true, false, not}
 use mathlib.Core.List.{List, [], ◌∷◌, ◌++◌}
 use Prim.Native.Nat.{ℕ}
-use borrow.Author.Tests.{not-true, eqb-true}
+use native.Mathlib.Omega.{arith}
 use lib.Dec.{eqb}
 use lib.ListN.{length}
+use Rattle.std.proofs.Common.{tests}
 use Rattle.basics.specs.Choice.{pick, both}
-use Rattle.basics.proofs.Flags.{right_of_both}
 use Rattle.basics.proofs.Cases.{never}
 use Rattle.contacts.specs.Counts.{Contacts, unseen, counted_of}
 use Rattle.phantom.specs.Phantom.{is_phantom}
-use Rattle.dock.specs.Answers.{answered}
-use Rattle.std.specs.Prelude.{Ok, Err}
-use Rattle.dock.specs.declared.Refusal.TheVariants.{ScanLength}
 use Rattle.dock.specs.Closing.{closing}
-use Rattle.dock.specs.Scan.{listening, is_counted, counting, changed, quiet, repeating, heard_scan, scanned, scan_of}
+use Rattle.dock.specs.Scan.{listening, is_counted, counting, changed, repeating, heard_scan, scanned, scan_of}
 use Rattle.history.proofs.Counters.{counted_again}
 use Rattle.keying.specs.Changes.{turns_to}
-use Rattle.keying.specs.Repeat.{ticked, repeated}
+use Rattle.keying.specs.Repeat.{ticked}
 use Rattle.keying.proofs.Places.{turns_places, repeated_places}
 use Rattle.record.specs.Views.{contacts_of, keys_of, Keys}
 use Rattle.record.specs.Parts.{with_keys}
@@ -26,24 +23,21 @@ use Rattle.record.specs.declared.Dock.{Dock}
 use Rattle.range.specs.Range.{in_range}
 use Rattle.telling.proofs.Held.{turns_agree}
 use Rattle.telling.proofs.Repeating.{turns_repeat, turns_outside, repeated_repeats, repeated_held}
-use Rattle.telling.proofs.Told.{ticked_told, turns_told, repeated_told}
+use Rattle.telling.proofs.Told.{turns_told, repeated_told}
 use Rattle.terminal.specs.Terminals.{Terminal}
 use Rattle.agreement.proofs.Overrunning.{changes_overrun, scan_overruns}
-use Rattle.agreement.proofs.Following.{Follows, none_wait, repeats_within, closing_follows}
-use Rattle.agreement.proofs.Ready.{Ready, IsReady, Settled, same_flags, at_once, shut_settled, closing_settled}
+use Rattle.agreement.proofs.Following.{Follows, none_wait, closing_follows}
+use Rattle.agreement.proofs.Ready.{Ready, IsReady, Settled, at_once, shut_settled, closing_settled}
 
 -- Scans are listened to only while no handover is open.
 listening_shut : (d : Dock) → listening d ≡ true → d.rest.handover ≡ false
 unfolding listening
-listening_shut d h =
-    not-true d.rest.handover
-    (right_of_both (eqb d.rest.waiting 0) (not d.rest.handover) (right_of_both d.rest.scanning (both (eqb d.rest.waiting 0) (not d.rest.handover)) h))
+listening_shut d h = grind arith
 
 module _ (d : Dock) (scans : List (List ℕ)) (shut : d.rest.handover ≡ false) where
   -- A tick.
   ticked_ready : IsReady d scans → Ready d.map (contacts_of d) (ticked (keys_of d)) d.rest.handover scans
-  ticked_ready r =
-      same_flags d.map (contacts_of d) (keys_of d) d.rest.handover scans r (ticked (keys_of d)) refl r.places.bytes r.repeats
+  ticked_ready r = grind arith
 
   -- The changes of a counted scan.
   module _ (scan : List ℕ) (k : Keys) where
@@ -70,11 +64,7 @@ module _ (d : Dock) (scans : List (List ℕ)) (shut : d.rest.handover ≡ false)
 -- The repeat.
 repeated_ready : (d : Dock) (scans : List (List ℕ)) → IsReady d scans → IsReady (repeating d) scans
 unfolding repeating
-repeated_ready d scans r =
-    same_flags d.map (contacts_of d) (keys_of d) d.rest.handover scans r (repeated (keys_of d) d.rest.mode d.types (quiet d))
-    (repeated_held d.rest.mode (keys_of d) d.types (quiet d))
-    (repeated_places d.rest.mode (keys_of d) d.types (quiet d) r.places).bytes
-    (repeated_repeats d.rest.mode (keys_of d) d.types (quiet d) r.repeats)
+repeated_ready d scans r = grind (arith, repeated_held, repeated_places, repeated_repeats)
 
 -- A scan that is listened to.
 heard_settled : (d : Dock) (scans : List (List ℕ)) (scan : List ℕ) → d.rest.handover ≡ false → IsReady d scans
@@ -111,41 +101,21 @@ scanned_settled d scans scan s = go (listening d) refl
 pub scan_settled : (d : Dock) (scans : List (List ℕ)) (scan : List ℕ) → in_range d ≡ true → Settled d scans
     → Settled (scan_of d scan).dock (pick (both (eqb (length scan) 18) (is_counted d scan)) (scans ++ (scan ∷ [])) scans)
 unfolding scan_of
-scan_settled d scans scan range s = rw range (go (eqb (length scan) 18))
-  where
-    go : (whole : Bool)
-        → Settled (pick whole (answered (Ok tt) (scanned d scan)) (answered (Err ScanLength) d)).dock
-        (pick (both whole (is_counted d scan)) (scans ++ (scan ∷ [])) scans)
-    go true = scanned_settled d scans scan s
-    go false = s
+scan_settled d scans scan range s = grind (arith, scanned_settled)
 
 -- The terminal: a tick, the changes of a counted scan, and the repeat.
 module _ (t : Terminal) where
   ticked_follows : (d : Dock) → Follows d t → Follows (with_keys d (ticked (keys_of d))) t
-  ticked_follows d f =
-      record { chosen = f.chosen; firm = f.firm; told = ticked_told d.rest.mode.set t (keys_of d) f.told }
+  ticked_follows d f = grind arith
 
   repeated_follows : (d : Dock) (scans : List (List ℕ)) → IsReady d scans → Follows d t → Follows (repeating d) t
   unfolding repeating
-  repeated_follows d scans r f =
-      let q = d.rest.outgoing.queue in
-      record {
-        chosen = f.chosen;
-        firm = f.firm;
-        told = repeated_told d.rest.mode f.chosen t d.types (keys_of d) (quiet d) r.repeats (repeats_within (keys_of d) r.outside r.repeats)
-            (λ e. none_wait q (eqb-true q.length 0 (right_of_both (eqb d.rest.replies.length 0) (eqb q.length 0) e))) f.told;
-      }
+  repeated_follows d scans r f = grind (arith, tests, repeated_told, none_wait)
 
   counting_follows : (d : Dock) (scans : List (List ℕ)) (scan : List ℕ) → IsReady d scans → changes_overrun d scan ≡ false → Follows d t
       → Follows (counting (with_keys d (ticked (keys_of d))) scan) t
   unfolding counting changes_overrun
-  counting_follows d scans scan r room f =
-      record {
-        chosen = f.chosen;
-        firm = f.firm;
-        told = turns_told d.rest.mode f.chosen t d.types d.map r.entries 144 d.closed
-            (counted_of (contacts_of d) scan).closed (ticked (keys_of d)) room (ticked_told d.rest.mode.set t (keys_of d) f.told);
-      }
+  counting_follows d scans scan r room f = grind (arith, turns_told)
 
   module _ (d : Dock) (scans : List (List ℕ)) (scan : List ℕ) (s : Settled d scans) (f : Follows d t) where
     heard_follows : d.rest.handover ≡ false → both (not (is_phantom scan)) (changes_overrun d scan) ≡ false → Follows (heard_scan d scan) t
@@ -176,9 +146,4 @@ module _ (t : Terminal) where
     -- The call, refused or not.
     pub scan_follows : in_range d ≡ true → both (eqb (length scan) 18) (scan_overruns d scan) ≡ false → Follows (scan_of d scan).dock t
     unfolding scan_of
-    scan_follows range = rw range (go (eqb (length scan) 18))
-      where
-        go : (whole : Bool) → both whole (scan_overruns d scan) ≡ false
-            → Follows (pick whole (answered (Ok tt) (scanned d scan)) (answered (Err ScanLength) d)).dock t
-        go true room = scanned_follows room
-        go false room = f
+    scan_follows range = grind (arith, scanned_follows)

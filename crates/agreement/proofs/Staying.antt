@@ -1,5 +1,6 @@
 -- What scans, reads and swaps leave alone: whether scanning is on, the command that waits, the mode, and but for a swap the map. Assumes
 -- nothing.
+use native.Mathlib.Omega.{arith}
 use mathlib.Core.Path.{◌≡◌, refl}
 use mathlib.Core.Bool.{Bool, true, false, not}
 use mathlib.Core.List.{List}
@@ -12,11 +13,10 @@ use Rattle.basics.proofs.Cases.{picked}
 use Rattle.std.specs.Prelude.{Ok, Err}
 use Rattle.dock.specs.declared.Refusal.TheVariants.{MapLength, MapEntry, MapDouble}
 use Rattle.dock.specs.Answers.{answered}
-use Rattle.dock.specs.Closing.{closing, with_handed}
+use Rattle.dock.specs.Closing.{closing}
 use Rattle.dock.specs.Read.{remembering, read_of}
 use Rattle.dock.specs.Scan.{counting, changed, repeating, heard_scan, scan_of}
 use Rattle.dock.specs.Swap.{opened, remapped, swapped, swap_of}
-use Rattle.keying.specs.Handover.{handed_over}
 use Rattle.keying.specs.Repeat.{ticked}
 use Rattle.keys.specs.Keys.{last_key}
 use Rattle.maps.specs.Maps.{has_double}
@@ -35,7 +35,7 @@ Stays map d e = (e.map ≡ map) × (e.rest.scanning ≡ d.rest.scanning) × (e.r
 module _ (map : List ℕ) (d : Dock) where
   closing_stays : (e : Dock) → Stays map d e → Stays map d (closing e)
   unfolding closing
-  closing_stays e s = picked (Stays map d) e.rest.handover (with_handed e (handed_over (keys_of e) e.rest.mode e.types)) e s s
+  closing_stays e s = grind arith
 
 -- A scan.
 pub scan_stays : (d : Dock) (scan : List ℕ) → Stays d.map d (scan_of d scan).dock

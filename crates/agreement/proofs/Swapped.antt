@@ -1,6 +1,6 @@
 -- A swap leaves a settled dock settled, with no scan counted since, and the terminal goes on following. Assumes nothing.
-use mathlib.Core.Path.{◌≡◌, refl, ap, ◌∙◌}
-use mathlib.Core.Logic.{inl}
+use native.Mathlib.Omega.{arith}
+use mathlib.Core.Path.{◌≡◌, refl}
 use mathlib.Core.Bool.{Bool, true, false, not}
 use mathlib.Core.List.{List, []}
 use Prim.Native.Nat.{ℕ}
@@ -10,7 +10,6 @@ use lib.ListN.{length}
 use Rattle.basics.specs.Choice.{pick, both}
 use Rattle.basics.specs.Lists.{all_up_to}
 use Rattle.keys.specs.Keys.{last_key}
-use Rattle.contacts.specs.Counts.{unseen}
 use Rattle.std.specs.Prelude.{Ok, Err}
 use Rattle.dock.specs.declared.Refusal.TheVariants.{MapLength, MapEntry, MapDouble}
 use Rattle.dock.specs.Answers.{answered}
@@ -18,10 +17,8 @@ use Rattle.dock.specs.Swap.{opened, remapped, swapped, swap_of}
 use Rattle.history.specs.Scans.{counted_all}
 use Rattle.maps.specs.Maps.{has_double}
 use Rattle.record.specs.declared.Dock.{Dock}
-use Rattle.record.specs.Parts.{with_map}
 use Rattle.range.specs.Range.{in_range}
 use Rattle.runs.specs.Onlookers.{is_map}
-use Rattle.basics.proofs.Cases.{by_cases, picked, never}
 use Rattle.terminal.specs.Terminals.{Terminal}
 use Rattle.agreement.proofs.Following.{Follows, closing_follows}
 use Rattle.agreement.proofs.Ready.{IsReady, Settled, closing_settled}
@@ -32,31 +29,7 @@ module _ (d : Dock) (scans : List (List ℕ)) (s : Settled d scans) (map : List 
   module _ (long : length map ≡ 144) (entries : all_up_to last_key map ≡ true) (single : has_double map ≡ false) where
     remapped_ready : IsReady (remapped d map) []
     unfolding remapped opened counted_all
-    remapped_ready =
-        let r = s.ready in
-        by_cases (λ (e : Dock). IsReady e []) d.rest.handover (with_map d map) (opened d map)
-        (λ begun. record {
-          long = long;
-          entries = entries;
-          single = single;
-          places = r.places;
-          outside = r.outside;
-          repeats = r.repeats;
-          seen = r.seen ∙ ap (counted_all unseen) (r.anew begun);
-          agree = λ shut. never d.rest.handover begun shut;
-          anew = λ h. refl;
-        })
-        (λ shut. record {
-          long = long;
-          entries = entries;
-          single = single;
-          places = record { flags = r.places.flags; bytes = r.places.bytes };
-          outside = r.outside;
-          repeats = inl refl;
-          seen = refl;
-          agree = λ h. never true refl h;
-          anew = λ h. refl;
-        })
+    remapped_ready = grind arith
 
   -- The call, refused or not.
   pub swap_settled : in_range d ≡ true → Settled (swap_of d map).dock (pick (is_map map) [] scans)
@@ -76,10 +49,7 @@ module _ (d : Dock) (scans : List (List ℕ)) (s : Settled d scans) (map : List 
 module _ (d : Dock) (t : Terminal) (map : List ℕ) (f : Follows d t) where
   remapped_follows : Follows (remapped d map) t
   unfolding remapped opened
-  remapped_follows =
-      picked (λ (e : Dock). Follows e t) d.rest.handover (with_map d map) (opened d map)
-      f
-      (record { chosen = f.chosen; firm = f.firm; told = record { told = f.told.told } })
+  remapped_follows = grind arith
 
   pub swap_follows : Follows (swap_of d map).dock t
   swap_follows = swap_keeps (λ (e : Dock). Follows e t) (λ e g. closing_follows e t g) d f map (λ long good. remapped_follows)

@@ -1,39 +1,32 @@
 -- A read leaves a settled dock settled, and the terminal, which takes what key byte it gave, goes on following. Assumes nothing.
-use mathlib.Core.Path.{◌≡◌, refl}
-use mathlib.Core.Bool.{Bool, true, false}
+use mathlib.Core.Path.{◌≡◌}
+use mathlib.Core.Bool.{true}
 use mathlib.Core.List.{List}
 use Prim.Native.Nat.{ℕ, ◌≤◌}
 use native.Mathlib.Omega.{arith}
 use borrow.Author.Tests.{eqb-false}
-use lib.Dec.{eqb}
-use Rattle.std.specs.Prelude.{None, Ok}
-use Rattle.basics.specs.Choice.{pick, both}
-use lib.ListN.{length, length-take}
-use Rattle.dock.specs.Answers.{Taken, taken}
-use Rattle.dock.specs.Closing.{closing}
+use lib.ListN.{length}
+use Rattle.dock.specs.Answers.{Taken}
 use Rattle.dock.specs.Scan.{quiet}
 use Rattle.dock.specs.Read.{oldest, without_oldest, remembering, reply_taken, key_byte_taken, read, read_of}
 use Rattle.queue.specs.declared.Queue.{Queue}
 use Rattle.queue.specs.Queues.{waiting}
 use Rattle.record.specs.declared.Dock.{Dock}
-use Rattle.record.specs.Views.{with_queue, keys_of, contacts_of}
+use Rattle.record.specs.Views.{with_queue, keys_of}
 use Rattle.record.specs.Parts.{with_keys}
 use Rattle.range.specs.Range.{in_range}
-use Rattle.runs.specs.Machines.{ours, is_nothing, nothing_waits}
+use Rattle.runs.specs.Machines.{ours, nothing_waits}
 use Rattle.runs.specs.Worlds.{takes}
 use Rattle.telling.proofs.Told.{byte_told}
 use Rattle.terminal.specs.Terminals.{Terminal, hears}
 use Rattle.agreement.proofs.Following.{Follows, closing_follows}
-use Rattle.agreement.proofs.Ready.{IsReady, Settled, same_flags, closing_settled}
+use Rattle.agreement.proofs.Ready.{IsReady, Settled, closing_settled}
 use Rattle.dock.proofs.Calls.{by_read}
 use Rattle.dock.proofs.Arrays.{behind_places}
 
 byte_ready : (d : Dock) (scans : List (List ℕ)) → IsReady d scans
     → IsReady (with_keys d (with_queue (keys_of d) (without_oldest d.rest.outgoing.queue))) scans
-byte_ready d scans r =
-    let q = d.rest.outgoing.queue in
-    same_flags d.map (contacts_of d) (keys_of d) d.rest.handover scans r (with_queue (keys_of d) (without_oldest q)) refl
-    (behind_places q r.places.bytes) r.repeats
+byte_ready d scans r = grind (arith, behind_places)
 
 pub read_settled : (d : Dock) (scans : List (List ℕ)) → Settled d scans → Settled (read_of d).dock scans
 unfolding reply_taken key_byte_taken remembering
@@ -44,7 +37,7 @@ read_settled d scans s =
 -- A queue of some length holds some bytes.
 pub some_wait : (q : Queue) → length q.bytes ≡ 16 → (q.length ≡ 0 → ⊥) → 1 ≤ length (waiting q)
 unfolding waiting
-some_wait q places some = omega (arith, length-take q.length q.bytes)
+some_wait q places some = grind arith
 
 -- The terminal takes a key byte.
 byte_follows : (d : Dock) (t : Terminal) → 1 ≤ length (waiting d.rest.outgoing.queue) → Follows d t
@@ -64,10 +57,4 @@ read_follows d scans t s f =
 -- A read gives nothing exactly where nothing waits.
 pub nothing_is_quiet : (d : Dock) → in_range d ≡ true → nothing_waits ours d ≡ quiet d
 unfolding read_of read reply_taken key_byte_taken
-nothing_is_quiet d range = rw range (go (eqb d.rest.replies.length 0) (eqb d.rest.outgoing.queue.length 0))
-  where
-    go : (silent empty : Bool)
-        → is_nothing (pick silent (pick empty (taken (Ok None) (closing d)) (key_byte_taken d)) (reply_taken d)).given ≡ both silent empty
-    go true true = refl
-    go true false = refl
-    go false empty = refl
+nothing_is_quiet d range = grind arith

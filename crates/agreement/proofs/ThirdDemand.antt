@@ -5,8 +5,8 @@ use mathlib.Core.Bool.{true, false, not}
 use mathlib.Core.List.{List}
 use Prim.Native.Nat.{ℕ, zero, suc}
 use native.Mathlib.Omega.{arith}
-use borrow.Author.Tests.{eqb-true, leb-true}
-use lib.Dec.{eqb, leb}
+use borrow.Author.Tests.{eqb-true}
+use lib.Dec.{eqb}
 use lib.ListN.{get_or, set, replicate}
 use lib.Seq.{get_or-set_other}
 use Rattle.basics.specs.Choice.{both, between}
@@ -30,8 +30,7 @@ one_or_two : (n : ℕ) → between 1 2 n ≡ true → (n ≡ 1) ⊎ (n ≡ 2)
 one_or_two zero e = never false e refl
 one_or_two (suc zero) e = inl refl
 one_or_two (suc (suc zero)) e = inr refl
-one_or_two (suc (suc (suc n))) e =
-    let most = leb-true (suc (suc (suc n))) 2 (right_of_both (leb 1 (suc (suc (suc n)))) (leb (suc (suc (suc n))) 2) e) in absurd (omega arith)
+one_or_two (suc (suc (suc n))) e = grind arith
 
 -- Where a terminal may begin, it follows.
 begin_in_step : (w : World) → Sound w → may_begin ours w ≡ true → InStep (beginning w)

@@ -1,8 +1,7 @@
 -- The dock's counters say of each contact what the counted scans say of it. Assumes nothing.
 use mathlib.Core.Path.{◌≡◌, refl, sym, ap₂, ◌∙◌}
 use mathlib.Core.List.{List, [], ◌∷◌, ◌++◌}
-use Prim.Native.Nat.{ℕ, ◌/◌, ◌≤◌, ◌<◌}
-use native.Mathlib.Nat.{zero-div}
+use Prim.Native.Nat.{ℕ, ◌≤◌, ◌<◌}
 use native.Mathlib.Omega.{arith}
 use lib.Dec.{eqb}
 use lib.ListN.{length, get_or, get_or-replicate}
@@ -25,8 +24,7 @@ ends : (k : Contacts) (scans : List (List ℕ)) → length k.closed ≡ 18 → l
     → eqb (contact (counted_all k scans).closed position) 1
     ≡ ends_closed (contact k.closed position) (get_or k.counts position 0) (shown_at position scans)
 unfolding counted_all shown_at
-ends k [] l m position h n =
-    ends_now (contact k.closed position) (get_or k.counts position 0) (contact_small k.closed position) n
+ends k [] l m position h n = grind (arith, ends_now, contact_small)
 ends k (scan ∷ scans) l m position h n =
     let seen = contact scan position in
     let closed = contact k.closed position in
@@ -40,7 +38,7 @@ ends k (scan ∷ scans) l m position h n =
 -- Nothing is closed and nothing counted in contacts of which nothing has been seen.
 unseen_open : (position : ℕ) → position < 144 → contact unseen.closed position ≡ 0
 unfolding contact
-unseen_open position h = rw (get_or-replicate {A = ℕ} 18 (position / 8) 0 0 (omega arith), zero-div)
+unseen_open position h = grind arith
 
 unseen_count : (position : ℕ) → position < 144 → get_or unseen.counts position 0 ≡ 0
 unseen_count position h = get_or-replicate 144 position 0 0 h

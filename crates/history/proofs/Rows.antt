@@ -6,7 +6,7 @@ use mathlib.Core.List.{List, [], ◌∷◌, ◌++◌}
 use Prim.Native.Nat.{ℕ, zero, suc, ◌≤◌, ◌<◌}
 use native.Mathlib.Omega.{arith}
 use native.Mathlib.Decide.{ℕ_discrete}
-use borrow.Author.Tests.{eq-eqb, ne_eqb}
+use borrow.Author.Tests.{ne_eqb}
 use lib.Dec.{eqb}
 use lib.ListN.{replicate}
 use Rattle.basics.specs.Choice.{both, either}
@@ -21,8 +21,8 @@ module _ (this other : ℕ) (d : eqb other this ≡ false) where
   broken zero h (b ∷ []) = refl
   broken zero h (b ∷ c ∷ rest) = rw d
   broken (suc zero) h [] = refl
-  broken (suc zero) h (c ∷ rest) = rw (d, eq-eqb this this refl)
-  broken (suc (suc zero)) h rest = rw (d, eq-eqb this this refl)
+  broken (suc zero) h (c ∷ rest) = grind arith
+  broken (suc (suc zero)) h rest = grind arith
   broken (suc (suc (suc n))) h rest = absurd (omega arith)
 
   broken_row : (n : ℕ) → n ≤ 2 → (rest : List ℕ) → three_in_a_row this (replicate n this ++ (other ∷ rest)) ≡ three_in_a_row this rest
@@ -67,7 +67,7 @@ one_more (a ∷ b ∷ rest) = go (ℕ_discrete a 1) (ℕ_discrete b 1)
 
 broken_open : (n : ℕ) → n ≤ 2 → (rest : List ℕ) → stays_closed (replicate n 0 ++ (1 ∷ rest)) ≡ stays_closed rest
 unfolding stays_closed
-broken_open n h rest = rw (broken_row 0 1 refl n h rest, open_first n (1 ∷ rest)) (one_more rest)
+broken_open n h rest = grind (arith, broken_row, open_first, one_more)
 
 -- The third in a row turns it.
 third_closed : (rest : List ℕ) → says_closed (1 ∷ 1 ∷ 1 ∷ rest) ≡ stays_closed rest

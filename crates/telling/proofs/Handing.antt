@@ -2,15 +2,14 @@
 -- Assumes nothing.
 use mathlib.Core.Path.{◌≡◌, refl, ◌∙◌}
 use mathlib.Core.Logic.{◌⊎◌, inl, inr, ⊎_elim}
-use mathlib.Core.Bool.{Bool, true, false, not}
+use mathlib.Core.Bool.{true, false, not}
 use mathlib.Core.List.{List, [], ◌∷◌}
 use Prim.Native.Nat.{ℕ, zero, suc, ◌+◌, ◌≤◌, ◌<◌}
 use native.Mathlib.Decide.{ℕ_discrete}
 use native.Mathlib.Omega.{arith}
-use borrow.Author.Tests.{eqb-true, eqb-false, ne_eqb, not-true, not-false, leb-true, leb-false}
-use lib.Dec.{eqb, leb}
+use borrow.Author.Tests.{ne_eqb}
 use lib.ListN.{length, get_or, set}
-use lib.Seq.{get_or-set_other}
+use Rattle.std.proofs.lemmas.Grind.{common_steps}
 use Rattle.basics.specs.Choice.{pick, either}
 use Rattle.keys.specs.Keys.{last_key}
 use Rattle.codes.specs.declared.Action.TheVariants.{Release}
@@ -25,7 +24,7 @@ use Rattle.record.specs.declared.Mode.{Mode}
 use Rattle.record.specs.Views.{Keys}
 use Rattle.record.specs.Held.{is_held, flag_of, held_to}
 use Rattle.telling.specs.Agreeing.{NoneOutside}
-use Rattle.basics.proofs.Cases.{by_cases, never, neither_first, neither_second}
+use Rattle.basics.proofs.Cases.{never}
 
 -- A flag that is taken down is down, also where there is no place for one,
 pub down_own : (held : List ℕ) (key : ℕ) → get_or (set held key 0) key 0 ≡ 0
@@ -35,28 +34,21 @@ down_own (x ∷ xs) (suc key) = down_own xs key
 
 -- and any flag is down or as it was.
 pub down_any : (held : List ℕ) (key j : ℕ) → (get_or (set held key 0) j 0 ≡ 0) ⊎ (get_or (set held key 0) j 0 ≡ get_or held j 0)
-down_any held key j = go (ℕ_discrete j key)
-  where
-    go : Dec (j ≡ key) → (get_or (set held key 0) j 0 ≡ 0) ⊎ (get_or (set held key 0) j 0 ≡ get_or held j 0)
-    go (yes e) = inl (rw e (down_own held key))
-    go (no e) = inr (get_or-set_other held key j 0 0 e)
+down_any held key j = grind (arith, common_steps)
 
 -- The tests of a handover, as facts.
 pub held_up : (k : Keys) (key : ℕ) → is_held k key ≡ true → get_or k.held key 0 ≡ 0 → ⊥
-held_up k key h = eqb-false _ _ (not-true (eqb (get_or k.held key 0) 0) h)
-
-not_held_down : (k : Keys) (key : ℕ) → is_held k key ≡ false → get_or k.held key 0 ≡ 0
-not_held_down k key h = eqb-true _ _ (not-false (eqb (get_or k.held key 0) 0) h)
+held_up k key h = grind arith
 
 -- Where flags went down or stayed, no more keys are held,
 module _ (before after : List ℕ) (lower : (j : ℕ) → (get_or after j 0 ≡ 0) ⊎ (get_or after j 0 ≡ get_or before j 0)) where
   flag_lower : (j : ℕ) → flag_of (get_or after j 0) ≤ flag_of (get_or before j 0)
-  flag_lower j = ⊎_elim (λ e. rw e (omega arith)) (λ e. rw e (omega arith)) (lower j)
+  flag_lower j = grind arith
 
   no_more_held : (n : ℕ) → held_to n after ≤ held_to n before
   unfolding held_to
   no_more_held zero = omega arith
-  no_more_held (suc n) = omega (arith, no_more_held n, flag_lower (suc n))
+  no_more_held (suc n) = grind (arith, no_more_held n)
 
   -- and fewer if one of them went down.
   pub fewer_held : (j : ℕ) → 1 ≤ j → (get_or before j 0 ≡ 0 → ⊥) → get_or after j 0 ≡ 0 → (n : ℕ) → j ≤ n → held_to n after < held_to n before
@@ -84,7 +76,7 @@ module _ (m : Mode) (types : List ℕ) where
 
   -- so one that is down stays down.
   handed_down : (n key : ℕ) (k : Keys) (j : ℕ) → get_or k.held j 0 ≡ 0 → get_or (handed_from n key k m types).keys.held j 0 ≡ 0
-  handed_down n key k j down = ⊎_elim (λ e. e) (λ e. e ∙ down) (handed_any n key k j)
+  handed_down n key k j down = grind (arith, handed_any)
 
   pub handed_outside : (n key : ℕ) (k : Keys) → NoneOutside k.held → NoneOutside (handed_from n key k m types).keys.held
   handed_outside n key k out j h = handed_down n key k j (out j h)
@@ -95,11 +87,10 @@ module _ (m : Mode) (types : List ℕ) where
 
   passed_own : (k : Keys) (key : ℕ) → get_or (passed k key).held key 0 ≡ 0
   unfolding passed released released_with
-  passed_own k key =
-      by_cases (λ (r : Keys). get_or r.held key 0 ≡ 0) (is_held k key) _ _ (λ h. down_own k.held key) (not_held_down k key)
+  passed_own k key = grind (arith, common_steps)
 
   pub passed_gone : (n key : ℕ) (k : Keys) (j : ℕ) → j ≡ key → get_or (handed_from n (suc key) (passed k key) m types).keys.held j 0 ≡ 0
-  passed_gone n key k j e = rw e (handed_down n (suc key) (passed k key) key (passed_own k key))
+  passed_gone n key k j e = grind (arith, handed_down, passed_own)
 
   -- What holds of a handover holds if it holds where it goes on and where it stops.
   module _ (P : Handed → Type 0) (n key : ℕ) (k : Keys) where
@@ -107,11 +98,7 @@ module _ (m : Mode) (types : List ℕ) where
         → (is_held k key ≡ true → can_leave k m types key ≡ false → P (record { keys = k; unfinished = true }))
         → P (handed_from (suc n) key k m types)
     unfolding passed handed_from
-    step on off =
-        by_cases P (either (not (is_held k key)) (can_leave k m types key)) _ _ on
-        (λ e.
-        let leaves = can_leave k m types key in
-        off (not-false (is_held k key) (neither_first (not (is_held k key)) leaves e)) (neither_second (not (is_held k key)) leaves e))
+    step on off = grind arith
 
   -- A finished handover has let every key go.
   handed_finished : (n key : ℕ) (k : Keys) → (handed_from n key k m types).unfinished ≡ false → (j : ℕ) → key ≤ j → j < key + n
@@ -131,12 +118,8 @@ module _ (m : Mode) (types : List ℕ) where
 
   pub handed_all : (k : Keys) → NoneOutside k.held → (handed_from last_key 1 k m types).unfinished ≡ false
       → (j : ℕ) → get_or (handed_from last_key 1 k m types).keys.held j 0 ≡ 0
-  handed_all k out done zero = handed_down last_key 1 k 0 (out 0 (inl refl))
-  handed_all k out done (suc j) = go (leb (suc j) last_key) refl
-    where
-      go : (b : Bool) → leb (suc j) last_key ≡ b → get_or (handed_from last_key 1 k m types).keys.held (suc j) 0 ≡ 0
-      go true e = handed_finished last_key 1 k done (suc j) (omega arith) (omega (arith, leb-true (suc j) last_key e))
-      go false e = handed_down last_key 1 k (suc j) (out (suc j) (inr (leb-false (suc j) last_key e)))
+  handed_all k out done zero = grind (arith, handed_down)
+  handed_all k out done (suc j) = grind (arith, handed_finished, handed_down)
 
   -- Where it stops there is no room: more than half the queue waits.
   pub handed_waits : (n key : ℕ) (k : Keys) → (handed_from n key k m types).unfinished ≡ true

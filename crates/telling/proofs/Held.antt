@@ -7,10 +7,8 @@ use Prim.Native.Nat.{ℕ, zero, suc, ◌/◌, ◌≤◌, ◌<◌}
 use native.Mathlib.Nat.{zero-div, not-suc-le-zero}
 use native.Mathlib.Decide.{ℕ_discrete}
 use native.Mathlib.Omega.{arith}
-use borrow.Author.Tests.{eqb-true, eqb-false}
-use lib.Dec.{eqb}
 use lib.ListN.{length, get_or, replicate, length-set}
-use lib.Seq.{get_or-set_same, get_or-set_other}
+use Rattle.std.proofs.lemmas.Grind.{common_steps}
 use Rattle.basics.specs.Lists.{all_up_to}
 use Rattle.basics.proofs.Limits.{up_to_at}
 use Rattle.keys.specs.Keys.{last_key}
@@ -21,7 +19,6 @@ use Rattle.keying.proofs.Kept.{turns_keep}
 use Rattle.record.specs.declared.Mode.{Mode}
 use Rattle.record.specs.Views.{Keys}
 use Rattle.telling.specs.Agreeing.{Agrees, EachOnce}
-use Rattle.basics.proofs.Cases.{by_cases}
 use Rattle.basics.proofs.Zeros.{zeros_at}
 
 -- There are 144 flags, whatever turns.
@@ -43,30 +40,14 @@ module _ (m : Mode) where
         → ((get_or map position 0 ≡ 0 → ⊥) → get_or map position 0 ≡ j → ⊥)
         → get_or (turned m types map position before after k).held j 0 ≡ get_or k.held j 0
     unfolding turned moved pressed released released_with
-    turned_other position before after k j other =
-        let key = get_or map position 0 in
-        let Stays : Keys → Type 0 = λ (r : Keys). get_or r.held j 0 ≡ get_or k.held j 0 in
-        by_cases Stays (eqb before after) _ _ (λ e. refl)
-        (λ e. by_cases Stays (eqb key 0) _ _ (λ z. refl)
-        (λ z.
-        by_cases Stays (eqb after 1) _ _
-        (λ c. get_or-set_other k.held key j 1 0 (λ q. other (eqb-false key 0 z) (sym q)))
-        (λ c. get_or-set_other k.held key j 0 0 (λ q. other (eqb-false key 0 z) (sym q)))))
+    turned_other position before after k j other = grind (arith, common_steps)
 
     -- and its own becomes what the contact is.
     turned_own : (position before after : ℕ) (k : Keys) → (get_or map position 0 ≡ 0 → ⊥) → get_or map position 0 < length k.held
         → after < 2 → get_or k.held (get_or map position 0) 0 ≡ before
         → get_or (turned m types map position before after k).held (get_or map position 0) 0 ≡ after
     unfolding turned moved pressed released released_with
-    turned_own position before after k some fits small was =
-        let key = get_or map position 0 in
-        let Is : Keys → Type 0 = λ (r : Keys). get_or r.held key 0 ≡ after in
-        by_cases Is (eqb before after) _ _ (λ e. was ∙ eqb-true before after e)
-        (λ e. by_cases Is (eqb key 0) _ _ (λ z. absurd (some (eqb-true key 0 z)))
-        (λ z.
-        by_cases Is (eqb after 1) _ _
-        (λ c. get_or-set_same k.held key 1 0 fits ∙ sym (eqb-true after 1 c))
-        (λ c. let not-closed : 0 ≡ after = omega (arith, eqb-false after 1 c) in get_or-set_same k.held key 0 0 fits ∙ not-closed)))
+    turned_own position before after k some fits small was = grind (arith, common_steps)
 
     module _ (was is : List ℕ) (k : Keys) where
       -- A key of which no contact below a position turned has its flag as before.
@@ -74,9 +55,7 @@ module _ (m : Mode) where
           → get_or (turns_to n m types map was is k).held j 0 ≡ get_or k.held j 0
       unfolding turns_to
       turns_other zero j none = refl
-      turns_other (suc n) j none =
-          turned_other n (contact was n) (contact is n) (turns_to n m types map was is k) j (none n (omega arith))
-          ∙ turns_other n j (λ p h. none p (omega arith))
+      turns_other (suc n) j none = grind (arith, turns_other n j (λ p h. none p (omega arith)), turned_other)
 
       turns_flags : length k.held ≡ 144 → all_up_to last_key map ≡ true → (n : ℕ) → length (turns_to n m types map was is k).held ≡ 144
       turns_flags flags limit n =
@@ -105,20 +84,12 @@ module _ (m : Mode) where
                 ∙ earlier (omega arith)
 
         pub turns_agree : Agrees map was k.held → Agrees map is (turns_to 144 m types map was is k).held
-        turns_agree a =
-            record {
-              mapped = λ p h some. turns_own p some (a.mapped p h some) 144 h (omega arith);
-              unmapped = λ key none. turns_other 144 key none ∙ a.unmapped key none;
-            }
+        turns_agree a = grind (arith, turns_own, turns_other)
 
 -- No key held and no contact closed agree, whatever the map.
 pub none_agree : (map closed held : List ℕ) → ((key : ℕ) → get_or held key 0 ≡ 0) → ((p : ℕ) → p < 144 → contact closed p ≡ 0)
     → Agrees map closed held
-none_agree map closed held none at_rest =
-    record {
-      mapped = λ p h some. none (get_or map p 0) ∙ sym (at_rest p h);
-      unmapped = λ key alone. none key;
-    }
+none_agree map closed held none at_rest = grind arith
 
 -- In columns of zeros every contact is open.
 pub contact_open : (n position : ℕ) → contact (replicate n 0) position ≡ 0

@@ -1,23 +1,21 @@
 -- A handover never makes more of what is still to be read: the bytes that wait, and eight for each held key. Assumes nothing.
-use mathlib.Core.Path.{◌≡◌, refl, ap, ◌∙◌}
+use mathlib.Core.Path.{◌≡◌}
 use mathlib.Core.Bool.{true, not}
 use mathlib.Core.List.{List}
-use Prim.Native.Nat.{ℕ, zero, suc, ◌+◌, ◌*◌, ◌≤◌, ◌<◌}
+use Prim.Native.Nat.{ℕ, zero, suc, ◌+◌, ◌*◌, ◌≤◌}
 use native.Mathlib.Omega.{arith}
-use lib.ListN.{length, get_or, set, length-append}
+use lib.ListN.{length, get_or, length-append}
 use Rattle.basics.specs.Choice.{pick, either}
 use Rattle.keys.specs.Keys.{last_key}
-use Rattle.codes.specs.declared.Action.TheVariants.{Release}
 use Rattle.queue.specs.Queues.{waiting}
-use Rattle.sending.specs.Sending.{sends}
-use Rattle.sending.proofs.Sent.{sends_short, flag_small}
+use Rattle.sending.proofs.Sent.{sends_short}
 use Rattle.keying.specs.Handover.{Handed, can_leave, handed_from}
 use Rattle.keying.specs.Changes.{released_with, released}
 use Rattle.record.specs.declared.Mode.{Mode}
 use Rattle.record.specs.Views.{Keys}
 use Rattle.record.specs.Held.{is_held, held_to, held_count}
 use Rattle.basics.proofs.Cases.{by_cases}
-use Rattle.telling.proofs.Handing.{down_own, down_any, held_up, fewer_held}
+use Rattle.telling.proofs.Handing.{down_own, down_any, fewer_held}
 use Rattle.telling.proofs.Whole.{released_whole}
 
 -- What is still to be read of the keys: the bytes that wait, and eight for each held key, the most that its release can have.
@@ -28,20 +26,13 @@ to_read k = length (waiting k.queue) + 8 * held_count k.held
 pub held_most : (n : ℕ) (held : List ℕ) → held_to n held ≤ n
 unfolding held_to
 held_most zero held = omega arith
-held_most (suc n) held = omega (arith, held_most n held, flag_small (get_or held (suc n) 0) _ refl)
+held_most (suc n) held = grind (arith, held_most n held)
 
 module _ (m : Mode) (types : List ℕ) where
   released_less : (k : Keys) (key : ℕ) → 1 ≤ key → key ≤ last_key → is_held k key ≡ true → can_leave k m types key ≡ true
       → to_read (released k m (get_or types key 0) key) ≤ to_read k
   unfolding released released_with
-  released_less k key low high held leaves =
-      let type = get_or types key 0 in
-      let bytes = sends k m type key Release in
-      let more : length (waiting (released k m type key).queue) ≡ length (waiting k.queue) + length bytes =
-      ap length (released_whole m k type key leaves) ∙ length-append (waiting k.queue) bytes in
-      let fewer : held_count (set k.held key 0) < held_count k.held =
-      fewer_held k.held (set k.held key 0) (down_any k.held key) key low (held_up k key held) (down_own k.held key) last_key high in
-      omega (arith, sends_short k m type key Release)
+  released_less k key low high held leaves = grind (arith, released_whole, length-append, fewer_held, down_any, down_own, sends_short)
 
   pub handed_less : (n key : ℕ) → 1 ≤ key → key + n ≤ suc last_key → (k : Keys) → to_read (handed_from n key k m types).keys ≤ to_read k
   unfolding handed_from

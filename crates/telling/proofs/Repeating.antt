@@ -1,26 +1,21 @@
 -- The key that repeats is held, and no flag is up where there is no key: each move, repeat and handover keeps both. Assumes nothing.
-use mathlib.Core.Path.{◌≡◌, refl, ◌∙◌}
-use mathlib.Core.Logic.{◌⊎◌, inl, inr, ⊎_elim}
+use mathlib.Core.Path.{◌≡◌}
 use mathlib.Core.Bool.{Bool, true}
 use mathlib.Core.List.{List}
 use Prim.Native.Nat.{ℕ, ◌<◌}
 use native.Mathlib.Omega.{arith}
-use borrow.Author.Tests.{eqb-false}
-use lib.Dec.{eqb}
-use lib.ListN.{length, get_or}
-use lib.Seq.{get_or-set_same, get_or-set_other}
+use lib.ListN.{length}
+use Rattle.std.proofs.lemmas.Grind.{common_steps}
 use Rattle.basics.specs.Lists.{all_up_to}
 use Rattle.basics.proofs.Limits.{up_to_at}
 use Rattle.keys.specs.Keys.{last_key}
-use Rattle.codes.specs.Codes.{may_repeat}
-use Rattle.keying.specs.Repeat.{is_due, repeated}
+use Rattle.keying.specs.Repeat.{repeated}
 use Rattle.keying.specs.Changes.{pressed, released_with, released, turns_to}
 use Rattle.keying.specs.Handover.{handed_from}
 use Rattle.keying.proofs.Kept.{handed_keeps, turns_keep}
 use Rattle.record.specs.declared.Mode.{Mode}
 use Rattle.record.specs.Views.{Keys}
 use Rattle.telling.specs.Agreeing.{NoneOutside, RepeatsHeld}
-use Rattle.basics.proofs.Cases.{by_cases, picked}
 use Rattle.telling.proofs.Held.{pressed_flags, released_flags, turns_other}
 
 abbrev Kept : Keys → Type 0
@@ -30,21 +25,12 @@ module _ (m : Mode) where
   -- The key that is pressed is held, and it or none repeats.
   pub pressed_repeats : (k : Keys) (type key : ℕ) → key < length k.held → RepeatsHeld (pressed k m type key)
   unfolding pressed
-  pressed_repeats k type key fits =
-      let down = pressed k m type key in
-      picked (λ (r : ℕ). (r ≡ 0) ⊎ (get_or down.held r 0 ≡ 1)) (may_repeat m.set key type) key 0
-      (inr (get_or-set_same k.held key 1 0 fits)) (inl refl)
+  pressed_repeats k type key fits = grind (arith, common_steps)
 
   -- If the key that is released repeats, none does from there on.
   pub released_repeats : (k : Keys) (type key : ℕ) → RepeatsHeld k → RepeatsHeld (released k m type key)
   unfolding released released_with
-  released_repeats k type key some =
-      let up = released k m type key in
-      by_cases (λ (r : ℕ). (r ≡ 0) ⊎ (get_or up.held r 0 ≡ 1)) (eqb k.repeating key) 0 k.repeating (λ e. inl refl)
-      (λ e.
-      ⊎_elim (λ none. inl none)
-      (λ held. inr (get_or-set_other k.held key k.repeating 0 0 (eqb-false k.repeating key e) ∙ held))
-      some)
+  released_repeats k type key some = grind (arith, common_steps)
 
   pub turns_repeat : (types map : List ℕ) → all_up_to last_key map ≡ true → (n : ℕ) (was is : List ℕ) (k : Keys)
       → length k.held ≡ 144 → RepeatsHeld k → RepeatsHeld (turns_to n m types map was is k)
@@ -60,22 +46,13 @@ module _ (m : Mode) where
   -- A repeat leaves the flags alone, and the key that repeats if it goes on.
   pub repeated_held : (k : Keys) (types : List ℕ) (quiet : Bool) → (repeated k m types quiet).held ≡ k.held
   unfolding repeated
-  repeated_held k types quiet =
-      let Same : Keys → Type 0 = λ (r : Keys). r.held ≡ k.held in
-      picked Same (is_due k) _ _ (picked Same (may_repeat m.set k.repeating (get_or types k.repeating 0)) _ _ refl refl) refl
+  repeated_held k types quiet = grind arith
 
   pub repeated_repeats : (k : Keys) (types : List ℕ) (quiet : Bool) → RepeatsHeld k → RepeatsHeld (repeated k m types quiet)
   unfolding repeated
-  repeated_repeats k types quiet some =
-      picked RepeatsHeld (is_due k) _ _
-      (picked RepeatsHeld (may_repeat m.set k.repeating (get_or types k.repeating 0)) _ _ some (inl refl))
-      some
+  repeated_repeats k types quiet some = grind arith
 
   -- Turned contacts put no flag up where there is no key; of a handover see Handing.
   pub turns_outside : (types map : List ℕ) → all_up_to last_key map ≡ true → (n : ℕ) (was is : List ℕ) (k : Keys)
       → NoneOutside k.held → NoneOutside (turns_to n m types map was is k).held
-  turns_outside types map limit n was is k out key h =
-      turns_other m types map was is k n key
-      (λ p b some e.
-      ⊎_elim (λ z. some (e ∙ z)) (λ o. let most = up_to_at last_key map p limit in absurd (omega arith)) h)
-      ∙ out key h
+  turns_outside types map limit n was is k out key h = grind (arith, turns_other, up_to_at)

@@ -25,7 +25,7 @@ use Rattle.record.specs.Held.{is_held, modifiers_of}
 use Rattle.sending.specs.Sending.{num_lock, sends}
 use Rattle.keying.specs.Handover.{Handed, can_leave, handed_from}
 use Rattle.keying.specs.Changes.{pressed, released_with, released, turns_to}
-use Rattle.keying.specs.Repeat.{ticked, is_due, repeated}
+use Rattle.keying.specs.Repeat.{is_due, repeated}
 use Rattle.terminal.specs.Terminals.{Terminal, terminal, hears, hears_all}
 use Rattle.terminal.proofs.Hearing.{hears_more, hears_first}
 use Rattle.terminal.proofs.Heard.{press_heard, release_heard, repeat_heard}
@@ -46,7 +46,7 @@ told_empty s t k none p = rw none at p.told
 -- And one that finds them down is told, if nothing waits.
 pub empty_told : (s : ℕ) (t : Terminal) (k : Keys) → waiting k.queue ≡ [] → t ≡ terminal 0 (set k.held 101 0) → Told s t k
 unfolding hears_all
-empty_told s t k none e = record { told = rw none e }
+empty_told s t k none e = grind arith
 
 -- It may read the oldest byte.
 pub byte_told : (s : ℕ) (t : Terminal) (k : Keys) → 1 ≤ length (waiting k.queue) → Told s t k
@@ -54,14 +54,11 @@ pub byte_told : (s : ℕ) (t : Terminal) (k : Keys) → 1 ≤ length (waiting k.
 byte_told s t k some p =
     record { told = rw waiting-queue_of (hears_first s t (waiting k.queue) some ∙ p.told) }
 
-pub ticked_told : (s : ℕ) (t : Terminal) (k : Keys) → Told s t k → Told s t (ticked k)
-ticked_told s t k p = record { told = p.told }
-
 module _ (m : Mode) (h : (m.set ≡ 1) ⊎ (m.set ≡ 2)) (t : Terminal) where
   -- Bytes behind those that wait are heard by a terminal that finds the held keys down.
   behind : (k : Keys) (bytes after : List ℕ) → after ≡ waiting k.queue ++ bytes → Told m.set t k
       → hears_all m.set t after ≡ hears_all m.set (terminal 0 (set k.held 101 0)) bytes
-  behind k bytes after e p = rw (e, hears_more m.set t (waiting k.queue) bytes, p.told)
+  behind k bytes after e p = grind (arith, hears_more)
 
   pub pressed_told : (k : Keys) (type key : ℕ) → 1 ≤ key → key ≤ last_key → Fits k m type key Press
       → Told m.set t k → Told m.set t (pressed k m type key)

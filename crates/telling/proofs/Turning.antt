@@ -1,17 +1,13 @@
 -- One contact at a time, where the queue does not overrun: nothing happens, or a key is pressed or released whose bytes have room.
 -- What is shown of these three is shown of every turned contact. Assumes nothing.
 use mathlib.Core.Path.{◌≡◌}
-use mathlib.Core.Bool.{Bool, true, false, not}
+use mathlib.Core.Bool.{true, false}
 use mathlib.Core.List.{List, []}
 use Prim.Native.Nat.{ℕ, ◌≤◌}
 use native.Mathlib.Omega.{arith}
-use borrow.Author.Tests.{eqb-false, not-false}
-use lib.Dec.{eqb}
 use lib.ListN.{get_or, length}
-use Rattle.basics.specs.Choice.{pick}
 use Rattle.codes.specs.declared.Action.{Action}
 use Rattle.codes.specs.declared.Action.TheVariants.{Press, Release}
-use Rattle.contacts.specs.Scans.{contact}
 use Rattle.keying.specs.Changes.{pressed, released, moved, turned, turned_at}
 use Rattle.queue.specs.Queues.{waiting, has_room}
 use Rattle.record.specs.declared.Mode.{Mode}
@@ -19,7 +15,6 @@ use Rattle.record.specs.Views.{Keys}
 use Rattle.sending.specs.Sending.{sends}
 use Rattle.telling.specs.Overruns.{lacks_room, overruns_at}
 use Rattle.telling.specs.Queued.{move_bytes, turn_bytes_at}
-use Rattle.basics.proofs.Cases.{two_by_cases}
 
 -- The bytes of an action have room.
 abbrev pub Fits : Keys → Mode → ℕ → ℕ → Action → Type 0
@@ -33,22 +28,9 @@ module _ (P : Keys → List ℕ → Type 0) (m : Mode) (types : List ℕ) (k : K
       (up : 1 ≤ key → Fits k m type key Release → P (released k m type key) (sends k m type key Release)) where
     each_move : (closed : ℕ) → lacks_room k m types key closed ≡ false → P (moved k m types key closed) (move_bytes k m types key closed)
     unfolding moved move_bytes lacks_room
-    each_move closed fits =
-        two_by_cases P (eqb key 0) _ _ _ _ (λ none. still) (λ some. go (eqb closed 1) (a_key some) (rw some at fits))
-      where
-        a_key : eqb key 0 ≡ false → 1 ≤ key
-        a_key some =
-            let other = eqb-false key 0 some in
-            omega arith
-
-        go : (b : Bool) → 1 ≤ key → not (has_room (waiting k.queue) (length (sends k m type key (pick b Press Release)))) ≡ false
-            → P (pick b (pressed k m type key) (released k m type key)) (sends k m type key (pick b Press Release))
-        go true low fits = down low (not-false _ fits)
-        go false low fits = up low (not-false _ fits)
+    each_move closed fits = grind arith
 
     pub each_turn : (map was is : List ℕ) (position : ℕ) → get_or map position 0 ≡ key → overruns_at m types map was is position k ≡ false
         → P (turned_at m types map was is position k) (turn_bytes_at m types map was is position k)
     unfolding turned turn_bytes_at overruns_at
-    each_turn map was is position here fits =
-        two_by_cases P (eqb (contact was position) (contact is position)) _ _ _ _ (λ same. still)
-        (λ other. rw here (each_move (contact is position) (rw (other, here) at fits)))
+    each_turn map was is position here fits = grind (arith, each_move)

@@ -1,13 +1,14 @@
 -- What waits after keys moved, where the queue does not overrun: what waited before with whole sequences behind it. For every set.
 -- Assumes nothing.
-use mathlib.Core.Path.{◌≡◌, refl, sym, ap, ◌∙◌}
+use mathlib.Core.Path.{◌≡◌, refl, sym}
 use mathlib.Core.Bool.{true, false, not}
-use mathlib.Core.List.{List, [], ◌++◌, append-nil, append_assoc}
+use mathlib.Core.List.{List, [], ◌++◌, append-nil}
 use Prim.Native.Nat.{ℕ, zero, suc}
+use native.Mathlib.Omega.{arith}
 use lib.ListN.{length, get_or}
+use Rattle.std.proofs.lemmas.Grind.{common_steps}
 use Rattle.basics.specs.Choice.{pick, either}
 use Rattle.codes.specs.declared.Action.TheVariants.{Press, Release}
-use Rattle.keys.specs.Keys.{mark_of}
 use Rattle.queue.specs.declared.Queue.{Queue}
 use Rattle.queue.specs.Queues.{waiting, has_room}
 use Rattle.queue.proofs.Meaning.{waiting-queue_of}
@@ -27,22 +28,22 @@ use Rattle.telling.proofs.Turning.{Fits, each_turn}
 queued_whole : (q : Queue) (m : Mode) (bytes : List ℕ) → has_room (waiting q) (length bytes) ≡ true
     → waiting (queued_of q m bytes) ≡ waiting q ++ bytes
 unfolding queued_of
-queued_whole q m bytes room = waiting-queue_of _ ∙ pushed_whole (mark_of m.set) (waiting q) bytes room
+queued_whole q m bytes room = grind (arith, waiting-queue_of, pushed_whole)
 
 -- Bytes behind bytes.
 grown : (before first now second then : List ℕ) → now ≡ before ++ first → then ≡ now ++ second → then ≡ before ++ (first ++ second)
-grown before first now second then e f = f ∙ ap (λ (l : List ℕ). l ++ second) e ∙ append_assoc before first second
+grown before first now second then e f = grind (arith, common_steps)
 
 module _ (m : Mode) where
   pub pressed_whole : (k : Keys) (type key : ℕ) → Fits k m type key Press
       → waiting (pressed k m type key).queue ≡ waiting k.queue ++ sends k m type key Press
   unfolding pressed
-  pressed_whole k type key room = queued_whole k.queue m (sends k m type key Press) room
+  pressed_whole k type key room = grind (arith, queued_whole)
 
   pub released_whole : (k : Keys) (type key : ℕ) → Fits k m type key Release
       → waiting (released k m type key).queue ≡ waiting k.queue ++ sends k m type key Release
   unfolding released released_with
-  released_whole k type key room = queued_whole k.queue m (sends k m type key Release) room
+  released_whole k type key room = grind (arith, queued_whole)
 
   module _ (types : List ℕ) where
     pub turns_whole : (map : List ℕ) (n : ℕ) (was is : List ℕ) (k : Keys) → overruns_to n m types map was is k ≡ false
