@@ -1,4 +1,3 @@
-pub mod Answers
 pub mod Adding
 pub mod AtOnce
 pub mod Coded

@@ -45,6 +45,7 @@ fn action_of(event: u32) -> Action
 
 // The bytes of a key, written to the front of the output, and how many they are: set 1 to 3, key 1 to 125, event 0 press, 1 release,
 // 2 repeat, type 0 to 3, modifiers 0 to 63, Num Lock 0 or 1.
+#[tactic(auto, using(codes::proofs::Adding::holding_bytes), unfolding(crate::specs::Encoder::allowed, crate::specs::Encoder::asked, crate::specs::Encoder::encoded_of, crate::specs::Encoder::encoded_said, crate::specs::Encoder::output_of))]
 pub fn encode(
     set: u32,
     key: u32,

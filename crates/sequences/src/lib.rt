@@ -46,51 +46,8 @@ fn pauses_at_once(set: u8, key: u8) -> bool
     key == PAUSE && (set == 1 || set == 2)
 }
 
-// A key's make in its form, behind what a wrapping sends.
-#[tactic(auto, using(codes::proofs::Adding::adding_append, codes::proofs::Adding::adding_length, codes::proofs::Adding::adding_holding, codes::proofs::Adding::none_held, codes::proofs::Lengths::make_short, codes::proofs::Lengths::before_short))]
-fn made(table: &Table, set: u8, key: u8, form: Form, wrapping: Form) -> Sequence
-    ensures { result ≡ holding (before set wrapping ++ make_of (code_of set key form)) }
-{
-    with_before(Sequence::new(), set, wrapping).with_make(code_of(table, set, key, form))
-}
-
-// The bytes of a press, which no type changes.
-#[tactic(auto, using(codes::proofs::AtOnce::at_once_range), unfolding(codes::specs::Codes::bytes_of))]
-fn press_bytes(table: &Table, set: u8, key: u8, form: Form) -> Sequence
-    ensures { (kind : ℕ) → result ≡ holding (bytes_of set key Press kind form) }
-{
-    if pauses_at_once(set, key) {
-        return pause(set, form);
-    }
-    made(table, set, key, form, form)
-}
-
-// The bytes of a release: PAUSE sent its own with the press.
-#[tactic(auto, using(codes::proofs::Adding::adding_append, codes::proofs::Adding::adding_length, codes::proofs::Adding::adding_holding, codes::proofs::Adding::none_held, codes::proofs::Lengths::break_short, codes::proofs::Lengths::release_short), unfolding(codes::specs::Codes::bytes_of))]
-fn release_bytes(table: &Table, set: u8, key: u8, kind: u8, form: Form) -> Sequence
-    ensures { result ≡ holding (bytes_of set key Release kind form) }
-{
-    let none = Sequence::new();
-    if pauses_at_once(set, key) || !sends_release(set, kind) {
-        return none;
-    }
-    let broken = none.with_break(set, code_of(table, set, key, form));
-    with_after(broken, set, form)
-}
-
-// The bytes of a repeat, which is never wrapped.
-#[tactic(auto, unfolding(codes::specs::Codes::bytes_of, codes::specs::Codes::before))]
-fn repeat_bytes(table: &Table, set: u8, key: u8, kind: u8, form: Form) -> Sequence
-    ensures { result ≡ holding (bytes_of set key Repeat kind form) }
-{
-    if !may_repeat(set, key, kind) {
-        return Sequence::new();
-    }
-    made(table, set, key, form, Form::Plain)
-}
-
 // The bytes that an action of a key sends, by a table that the caller laid out.
-#[tactic(auto, unfolding(codes::specs::Codes::encode))]
+#[tactic(auto, using(codes::proofs::AtOnce::at_once_range, codes::proofs::Adding::adding_append, codes::proofs::Adding::adding_length, codes::proofs::Adding::adding_holding, codes::proofs::Adding::none_held, codes::proofs::Lengths::make_short, codes::proofs::Lengths::before_short, codes::proofs::Lengths::break_short, codes::proofs::Lengths::release_short, codes::proofs::Lengths::make_behind_short), unfolding(codes::specs::Codes::encode, codes::specs::Codes::bytes_of))]
 pub fn sequence_in(
     table: &Table,
     set: u8,
@@ -102,14 +59,20 @@ pub fn sequence_in(
 ) -> Sequence
     ensures { result ≡ holding (encode set key action kind modifiers lock) }
 {
+    let none = Sequence::new();
     if !has_code(set, key) {
-        return Sequence::new();
+        return none;
     }
     let form = form_of(set, key, modifiers, lock);
+    let code = code_of(table, set, key, form);
     match action {
-        Action::Press => press_bytes(table, set, key, form),
-        Action::Release => release_bytes(table, set, key, kind, form),
-        Action::Repeat => repeat_bytes(table, set, key, kind, form),
+        Action::Press if pauses_at_once(set, key) => pause(set, form),
+        Action::Press => with_before(none, set, form).with_make(code),
+        Action::Release if !pauses_at_once(set, key) && sends_release(set, kind) => {
+            with_after(none.with_break(set, code), set, form)
+        }
+        Action::Repeat if may_repeat(set, key, kind) => none.with_make(code),
+        _ => none,
     }
 }
 
