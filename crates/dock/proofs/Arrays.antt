@@ -4,7 +4,7 @@ use mathlib.Core.Bool.{true}
 use mathlib.Core.List.{List, [], ◌∷◌, map}
 use Prim.Native.Nat.{ℕ, suc}
 use native.Mathlib.Omega.{arith}
-use lib.ListN.{length, take, drop, length-take, length-drop, length-set}
+use lib.ListN.{length, length-take, length-set}
 use Rattle.basics.specs.Lists.{all_up_to}
 use Rattle.basics.proofs.Cases.{picked}
 use Rattle.commands.specs.Commands.{cleared, reply_to, obeyed, commanded}
@@ -40,23 +40,19 @@ use Rattle.dock.proofs.Calls.{scan_keeps, swap_keeps, frame_keeps, read_keeps}
 -- One array replaced by another of its size, or two.
 module _ {m c n h t q r : List ℕ} (s : Sized m c n h t q r) where
   other_keys : {h' q' : List ℕ} → length h' ≡ 144 → length q' ≡ 16 → Sized m c n h' t q' r
-  other_keys held queue =
-      record { map = s.map; closed = s.closed; counts = s.counts; held = held; types = s.types; queue = queue; replies = s.replies }
+  other_keys held queue = grind arith
 
   other_types : {t' : List ℕ} → length t' ≡ suc last_key → Sized m c n h t' q r
-  other_types types =
-      record { map = s.map; closed = s.closed; counts = s.counts; held = s.held; types = types; queue = s.queue; replies = s.replies }
+  other_types types = grind arith
 
   other_replies : {r' : List ℕ} → length r' ≡ 3 → Sized m c n h t q r'
-  other_replies replies =
-      record { map = s.map; closed = s.closed; counts = s.counts; held = s.held; types = s.types; queue = s.queue; replies = replies }
+  other_replies replies = grind arith
 
   other_panel_lem : {m' c' n' : List ℕ} → length m' ≡ 144 → length c' ≡ 18 → length n' ≡ 144 → Sized m' c' n' h t q r
-  other_panel_lem map closed counts =
-      record { map = map; closed = closed; counts = counts; held = s.held; types = s.types; queue = s.queue; replies = s.replies }
+  other_panel_lem map closed counts = grind arith
 
 places_of : (d : Dock) → IsSized d → Places (keys_of d)
-places_of d s = record { flags = s.held; bytes = s.queue }
+places_of d s = grind arith
 
 closing_sized : (d : Dock) → IsSized d → IsSized (closing d)
 unfolding closing
@@ -88,15 +84,11 @@ scan_sized d scan h s = scan_keeps IsSized closing_sized d s scan (heard_sized d
 -- A read: what waits without its oldest byte has as many places.
 pub behind_places : (q : Queue) → length q.bytes ≡ 16 → length (without_oldest q).bytes ≡ 16
 unfolding waiting
-behind_places q e =
-    let bytes = take q.length q.bytes in
-    places-queue_of (drop 1 bytes) (omega (arith, length-drop 1 bytes, length-take q.length q.bytes))
+behind_places q e = grind (arith, places-queue_of, length-take)
 
 replies_behind_lem : (r : Replies) → length r.bytes ≡ 3 → length (replies_behind r).bytes ≡ 3
 unfolding waiting_replies
-replies_behind_lem r e =
-    let bytes = take r.length r.bytes in
-    places-replies_of (drop 1 bytes) (omega (arith, length-drop 1 bytes, length-take r.length r.bytes))
+replies_behind_lem r e = grind (arith, places-replies_of, length-take)
 
 pub read_sized : (d : Dock) → IsSized d → IsSized (read_of d).dock
 unfolding remembering
@@ -119,16 +111,7 @@ default_types_sized = refl
 
 fresh_sized : (map : List ℕ) (replies : Replies) → length map ≡ 144 → length replies.bytes ≡ 3 → IsSized (fresh_with map replies)
 unfolding fresh_with
-fresh_sized map replies long three =
-    record {
-      map = long;
-      closed = refl;
-      counts = refl;
-      held = refl;
-      types = default_types_sized;
-      queue = places-queue_of [] (omega arith);
-      replies = three;
-    }
+fresh_sized map replies long three = grind (arith, default_types_sized, places-queue_of)
 
 pub power_on_sized : IsSized power_on
 unfolding power_on plain_map count_up
@@ -136,11 +119,11 @@ power_on_sized = fresh_sized plain_map _ refl (places-replies_of (0xaa ∷ []) (
 
 -- A frame.
 one_reply : (answer : ℕ) → length (replies_of (answer ∷ [])).bytes ≡ 3
-one_reply answer = places-replies_of (answer ∷ []) (omega arith)
+one_reply answer = grind (arith, places-replies_of)
 
 module _ (d : Dock) (s : IsSized d) where
   cleared_sized : IsSized (cleared d)
-  cleared_sized = other_keys s s.held (places-queue_of [] (omega arith))
+  cleared_sized = grind (arith, places-queue_of)
 
   obeyed_sized : (byte : ℕ) → IsSized (obeyed byte d)
   obeyed_sized byte =

@@ -3,25 +3,20 @@ use mathlib.Core.Path.{◌≡◌}
 use mathlib.Core.Bool.{true, false}
 use mathlib.Core.List.{List, [], ◌∷◌}
 use Prim.Native.Nat.{ℕ}
-use borrow.Author.Tests.{eqb-true}
+use native.Mathlib.Omega.{arith}
 use lib.Dec.{eqb}
 use lib.ListN.{length}
-use Rattle.std.specs.Prelude.{None, Ok, Err, Result}
+use Rattle.std.specs.Prelude.{None, Ok, Err}
 use Rattle.basics.specs.Lists.{all_up_to}
-use Rattle.basics.proofs.Cases.{by_cases, picked}
+use Rattle.basics.proofs.Cases.{picked}
 use Rattle.commands.specs.Commands.{replying}
-use Rattle.frames.specs.declared.FrameError.{FrameError}
-use Rattle.frames.specs.declared.FrameError.TheVariants.{Broken, TooLarge}
-use Rattle.frames.specs.Frames.{unpacked_of}
 use Rattle.host.specs.Values.{took_byte}
 use Rattle.keys.specs.Keys.{last_key}
-use Rattle.maps.specs.Maps.{has_double}
-use Rattle.range.specs.Range.{in_range}
 use Rattle.record.specs.declared.Dock.{Dock}
 use Rattle.record.specs.Views.{keys_of, with_queue}
 use Rattle.record.specs.Parts.{with_keys, with_replies}
 use Rattle.dock.specs.declared.Refusal.{Refusal}
-use Rattle.dock.specs.declared.Refusal.TheVariants.{ScanLength, MapLength, MapEntry, MapDouble, FrameNumber, BadRecord}
+use Rattle.dock.specs.declared.Refusal.TheVariants.{BadRecord}
 use Rattle.dock.specs.Answers.{Answered, Taken, answered, taken}
 use Rattle.dock.specs.Closing.{closing}
 use Rattle.dock.specs.Scan.{listening, heard_scan, scanned, scan_of}
@@ -33,27 +28,16 @@ use Rattle.dock.specs.Read.{oldest, without_oldest, oldest_reply, replies_behind
 module _ (P : Answered → Type 0) (d : Dock) (left : (refusal : Refusal) → P (answered (Err refusal) d)) where
   pub by_scan : (scan : List ℕ) → P (answered (Ok tt) (scanned d scan)) → P (scan_of d scan)
   unfolding scan_of
-  by_scan scan done = picked P (in_range d) _ _ (picked P (eqb (length scan) 18) _ _ done (left ScanLength)) (left BadRecord)
+  by_scan scan done = grind arith
 
   pub by_swap : (map : List ℕ) → (length map ≡ 144 → all_up_to last_key map ≡ true → P (answered (Ok tt) (swapped d map))) → P (swap_of d map)
   unfolding swap_of
-  by_swap map done =
-      picked P (in_range d) _ _
-      (by_cases P (eqb (length map) 144) _ _
-      (λ long. by_cases P (all_up_to last_key map) _ _
-      (λ good. picked P (has_double map) _ _ (left MapDouble) (done (eqb-true (length map) 144 long) good)) (λ bad. left MapEntry))
-      (λ short. left MapLength))
-      (left BadRecord)
+  by_swap map done = grind arith
 
   pub by_frame : (number : ℕ) → ((byte : ℕ) → P (answered (Ok tt) (closing (took_byte byte d))))
       → P (answered (Ok tt) (closing (replying (0xfe ∷ []) d))) → P (frame_of d number)
   unfolding frame_of took_frame
-  by_frame number took broken = picked P (in_range d) _ _ (go (unpacked_of number)) (left BadRecord)
-    where
-      go : (u : Result ℕ FrameError) → P (took_frame u d)
-      go (Ok byte) = took byte
-      go (Err Broken) = broken
-      go (Err TooLarge) = left FrameNumber
+  by_frame number took broken = grind arith
 
 -- The same of a read: refused, or by what waits.
 pub by_read : (P : Taken → Type 0) (d : Dock) → P (taken (Err BadRecord) d)
@@ -61,12 +45,7 @@ pub by_read : (P : Taken → Type 0) (d : Dock) → P (taken (Err BadRecord) d)
     → (eqb d.rest.replies.length 0 ≡ true → eqb d.rest.outgoing.queue.length 0 ≡ false → P (key_byte_taken d))
     → (eqb d.rest.replies.length 0 ≡ false → P (reply_taken d)) → P (read_of d)
 unfolding read_of read
-by_read P d refused nothing key-byte reply =
-    picked P (in_range d) _ _
-    (by_cases P (eqb d.rest.replies.length 0) _ _
-    (λ none. by_cases P (eqb d.rest.outgoing.queue.length 0) _ _ (nothing none) (key-byte none))
-    reply)
-    refused
+by_read P d refused nothing key-byte reply = grind arith
 
 -- A property of the record alone, which the end of every accepted call keeps: each call keeps it if what it does before its end does.
 module _ (P : Dock → Type 0) (ends : (e : Dock) → P e → P (closing e)) (d : Dock) (p : P d) where

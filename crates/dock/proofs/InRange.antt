@@ -7,7 +7,6 @@ use native.Mathlib.Omega.{arith}
 use Rattle.basics.specs.Lists.{all_up_to}
 use Rattle.basics.proofs.Cases.{picked}
 use Rattle.keys.specs.Keys.{last_key}
-use Rattle.phantom.specs.Phantom.{is_phantom}
 use Rattle.contacts.specs.Counts.{unseen, counted_of}
 use Rattle.commands.specs.Commands.{replying}
 use Rattle.host.specs.Values.{took_byte}
@@ -26,7 +25,7 @@ use Rattle.record.specs.declared.Dock.{Dock}
 use Rattle.range.specs.Range.{good_rest, in_range}
 use Rattle.range.proofs.Ranges.{alone_in_range, in_range_rest, good_keys_queue, good_keys_with_queue, good_keys_with_repeat, in_range_map, in_range_keys, in_range_mode, in_range_replies, in_range_with_map, in_range_with_contacts, in_range_with_keys, in_range_with_replies, in_range_with_handover, in_range_with_given}
 use Rattle.dock.specs.Closing.{closing}
-use Rattle.dock.specs.Scan.{counting, changed, quiet, repeating, heard_scan, scan_of}
+use Rattle.dock.specs.Scan.{counting, changed, repeating, heard_scan, scan_of}
 use Rattle.dock.specs.Swap.{opened, remapped, swap_of}
 use Rattle.dock.specs.Frame.{frame_of}
 use Rattle.dock.specs.Read.{without_oldest, replies_behind, remembering, read_of}
@@ -53,11 +52,11 @@ counting_in_range d scan h =
 
 changed_in_range : (d : Dock) (scan : List ℕ) → in_range d ≡ true → in_range (changed d scan) ≡ true
 unfolding changed
-changed_in_range d scan h = picked InRange (is_phantom scan) _ _ h (counting_in_range d scan h)
+changed_in_range d scan h = grind (arith, counting_in_range)
 
 repeating_in_range : (d : Dock) → in_range d ≡ true → in_range (repeating d) ≡ true
 unfolding repeating
-repeating_in_range d h = in_range_with_keys d h _ (repeated_good (keys_of d) d.rest.mode d.types (quiet d) (in_range_keys d h))
+repeating_in_range d h = grind (arith, in_range_with_keys, repeated_good, in_range_keys)
 
 ticking_in_range : (d : Dock) → in_range d ≡ true → in_range (with_keys d (ticked (keys_of d))) ≡ true
 ticking_in_range d h = in_range_with_keys d h (ticked (keys_of d)) (ticked_good (keys_of d) (in_range_keys d h))
@@ -72,14 +71,14 @@ module _ (d : Dock) (h : in_range d ≡ true) (next : Dock) where
 
 heard_in_range : (d : Dock) (scan : List ℕ) → in_range d ≡ true → in_range (heard_scan d scan) ≡ true
 unfolding heard_scan
-heard_in_range d scan h = repeating_in_range _ (changed_in_range (with_keys d (ticked (keys_of d))) scan (ticking_in_range d h))
+heard_in_range d scan h = grind (arith, repeating_in_range, changed_in_range, ticking_in_range)
 
 pub scan_in_range : (d : Dock) (scan : List ℕ) → in_range d ≡ true → in_range (scan_of d scan).dock ≡ true
 scan_in_range d scan h = scan_keeps InRange closing_in_range d h scan (heard_in_range d scan h)
 
 -- A read.
 reply_in_range : (d : Dock) → in_range d ≡ true → in_range (with_replies d (replies_behind d.rest.replies)) ≡ true
-reply_in_range d h = in_range_with_replies d h _ (popped_replies_tidy d.rest.replies (in_range_replies d h))
+reply_in_range d h = grind (arith, in_range_with_replies, popped_replies_tidy, in_range_replies)
 
 key_byte_in_range : (d : Dock) → in_range d ≡ true
     → in_range (with_keys d (with_queue (keys_of d) (without_oldest d.rest.outgoing.queue))) ≡ true
@@ -123,7 +122,7 @@ opened_in_range d map h g =
 
 remapped_in_range : (d : Dock) (map : List ℕ) → in_range d ≡ true → all_up_to last_key map ≡ true → in_range (remapped d map) ≡ true
 unfolding remapped
-remapped_in_range d map h g = picked InRange d.rest.handover _ _ (in_range_with_map d h map g) (opened_in_range d map h g)
+remapped_in_range d map h g = grind (arith, in_range_with_map, opened_in_range)
 
 pub swap_leaves_range : (d : Dock) (map : List ℕ) → in_range d ≡ true → all_up_to last_key map ≡ true → (next : Dock) → next ≡ remapped d map
     → in_range next ≡ true

@@ -4,7 +4,6 @@ pub mod Handing
 pub mod Reading
 pub mod Framing
 pub mod Resting
-pub mod Sizes
 pub mod Arrays
 pub mod Refusals
 pub mod Saying

