@@ -5,5 +5,4 @@ pub mod Limits
 pub mod Sameness
 pub mod Zeros
 pub mod Once
-pub mod Copying
 pub mod Cases

@@ -1,16 +1,16 @@
 -- Two lists that are the same: they are equal; and as a loop with a flag finds it out. Assumes nothing.
 use mathlib.Core.Path.{◌≡◌, refl, ap₂, ◌∙◌}
-use mathlib.Core.Bool.{Bool, true, false}
+use mathlib.Core.Bool.{Bool, true, ◌&&◌}
 use mathlib.Core.List.{List, [], ◌∷◌}
-use Prim.Native.Nat.{ℕ, ◌+◌, ◌≤◌, ◌<◌}
+use Prim.Native.Nat.{ℕ, suc, ◌+◌, ◌≤◌, ◌<◌}
 use native.Mathlib.Numerals.{add-one}
-use borrow.Author.Tests.{eq-eqb, ne_eqb, eqb-true}
+use borrow.Author.Tests.{eqb-true}
 use lib.Dec.{eqb}
 use lib.ListN.{length, get_or, drop, drop_of_length-le}
 use lib.Seq.{drop-cons}
 use Rattle.basics.specs.Choice.{both}
 use Rattle.basics.specs.Lists.{same}
-use Rattle.basics.proofs.Flags.{flag_down, flag_stays, flag_tells, left_of_both, right_of_both}
+use Rattle.basics.proofs.Flags.{flag_tells, both_so_far, left_of_both, right_of_both}
 
 pub same_is : (s t : List ℕ) → same s t ≡ true → s ≡ t
 unfolding same
@@ -22,16 +22,10 @@ same_is (x ∷ xs) (y ∷ ys) e =
     (same_is xs ys (right_of_both (eqb x y) (same xs ys) e))
 
 module _ (s t : List ℕ) (c : ℕ) (flag : Bool) (i : same s t ≡ both flag (same (drop c s) (drop c t))) where
-  module _ (h : c < length s) (g : c < length t) (r : Bool) where
-    next : same s t ≡ both flag (both (eqb (get_or s c 0) (get_or t c 0)) (same (drop (c + 1) s) (drop (c + 1) t)))
-    unfolding same
-    next = i ∙ rw (add-one, drop-cons s c 0 h, drop-cons t c 0 g)
-
-    pub same_no : (get_or s c 0 ≡ get_or t c 0 → ⊥) → r ≡ false → same s t ≡ both r (same (drop (c + 1) s) (drop (c + 1) t))
-    same_no n e = flag_down (same s t) flag (eqb (get_or s c 0) (get_or t c 0)) (same (drop (c + 1) s) (drop (c + 1) t)) next r (ne_eqb _ _ n) e
-
-    pub same_yes : get_or s c 0 ≡ get_or t c 0 → r ≡ flag → same s t ≡ both r (same (drop (c + 1) s) (drop (c + 1) t))
-    same_yes y e = flag_stays (same s t) flag (eqb (get_or s c 0) (get_or t c 0)) (same (drop (c + 1) s) (drop (c + 1) t)) next r (eq-eqb _ _ y) e
+  pub same_more : c < length s → c < length t → same s t ≡ both (flag && eqb (get_or s c 0) (get_or t c 0)) (same (drop (c + 1) s) (drop (c + 1) t))
+  unfolding same
+  same_more h g =
+      i ∙ rw (add-one, drop-cons s c 0 h, drop-cons t c 0 g) (both_so_far flag (eqb (get_or s c 0) (get_or t c 0)) (same (drop (suc c) s) (drop (suc c) t)))
 
   pub same_end : length s ≤ c → length t ≤ c → flag ≡ same s t
   unfolding same

@@ -4,9 +4,8 @@ use mathlib.Core.Bool.{Bool, true, false}
 use mathlib.Core.List.{List}
 use Prim.Native.Nat.{ℕ, zero, suc, ◌+◌, ◌*◌, ◌-◌, ◌%◌, ◌^◌, ◌≤◌, ◌<◌}
 use native.Mathlib.Nat.{le_antisymm, pow-suc, pow-le-pow_right}
-use native.Mathlib.Decide.{ℕ_discrete}
 use native.Mathlib.Omega.{arith}
-use borrow.Author.Tests.{eq-eqb, ne_eqb, lt-ltb, le-ltb}
+use borrow.Author.Tests.{eq-eqb, ne_eqb}
 use lib.Bits.{bit_and, bit_or, bit_xor, and_high, xor_lt}
 use lib.Dec.{eqb, ltb}
 use lib.ListN.{get_or, set}
@@ -16,21 +15,6 @@ use Rattle.contacts.specs.Counts.{next_count, next_closed, packed, renewed, colu
 use Rattle.contacts.proofs.Pointwise.{next_closed_small}
 use Rattle.contacts.proofs.Bytes.{row_xor, row_same, packed_row, packed_up_to_255, packed_rows, packed_same, packed_to, packed_all, packed_more}
 use Rattle.contacts.proofs.Renewals.{renewed_more, renewed_later}
-
--- A contact does not turn while its row of scans is too short; else it turns if it is shown otherwise.
-pub turns_late : (otherwise count : ℕ) → count < 2 → ◌≡◌ {A = ℕ} 0 (next_closed otherwise 0 count)
-turns_late otherwise count h = rw (lt-ltb count 2 h) (none (eqb otherwise 0))
-  where
-    none : (t : Bool) → ◌≡◌ {A = ℕ} 0 (pick t 0 0)
-    none true = refl
-    none false = refl
-
-pub turns_now : (otherwise count : ℕ) → 2 ≤ count → otherwise ≡ next_closed otherwise 0 count
-turns_now otherwise count h = rw (le-ltb count 2 h) (go (ℕ_discrete otherwise 0))
-  where
-    go : Dec (otherwise ≡ 0) → otherwise ≡ pick (eqb otherwise 0) 0 otherwise
-    go (yes e) = rw e
-    go (no d) = rw (ne_eqb otherwise 0 d)
 
 -- A row left at its bit: the byte without its other rows.
 row_mask : (byte r : ℕ) → r < 8 → bit_and byte (1 * 2 ^ r % 256) ≡ contact_in byte r * 2 ^ r

@@ -1,15 +1,16 @@
 -- A list with some of its entries made anew, one after the other. Assumes nothing.
-use mathlib.Core.Path.{◌≡◌, refl, ap, ◌∙◌}
+use mathlib.Core.Path.{◌≡◌, refl, sym, ap, ◌∙◌}
 use mathlib.Core.List.{List}
 use Prim.Native.Nat.{ℕ, zero, suc, ◌+◌, ◌≤◌, ◌<◌}
-use native.Mathlib.Nat.{add-zero, add-suc, zero-add, le_antisymm}
+use native.Mathlib.Nat.{add-zero, add-suc, zero-add}
 use native.Mathlib.Numerals.{add-one}
 use native.Mathlib.Omega.{arith}
 use native.Mathlib.Decide.{ℕ_discrete}
-use lib.ListN.{length, get_or, set, length-set}
-use lib.Seq.{get_or-set_same, get_or-set_other}
+use lib.ListN.{length, get_or, set, replicate, length-set, length-replicate}
+use lib.Seq.{paste, paste-zero, paste-suc, get_or-set_same, get_or-set_other}
 use Rattle.basics.specs.Lists.{map_from}
 use Rattle.basics.proofs.Maps.{map_from-is}
+use Rattle.basics.proofs.Zeros.{zeros_at}
 use Rattle.contacts.specs.Counts.{renewed}
 
 module _ (new : ℕ → ℕ → ℕ) (first : ℕ) where
@@ -53,9 +54,6 @@ module _ (new : ℕ → ℕ → ℕ) (first : ℕ) where
   renewed_more n list l x i e =
       rw (add-one, e, i) (ap (λ (y : ℕ). set (renewed new first n list) (first + n) (new n y)) (renewed_later n list (first + n) (omega arith)))
 
-  pub renewed_end : (n : ℕ) (list l : List ℕ) (m : ℕ) → n ≤ m → m ≤ n → l ≡ renewed new first n list → l ≡ renewed new first m list
-  renewed_end n list l m a b i = i ∙ ap (λ (k : ℕ). renewed new first k list) (le_antisymm a b)
-
 -- All of them: the list put through.
 pub renewed_all : (new : ℕ → ℕ → ℕ) (list : List ℕ) → renewed new 0 (length list) list ≡ map_from new 0 list
 renewed_all new list =
@@ -77,3 +75,12 @@ renewed_join new next a list l i (suc m) h =
     let front = renewed_join new next a list l i m (λ r b. h r (omega arith)) in
     let kept : get_or l (a + m) 0 ≡ get_or list (a + m) 0 = rw i (renewed_later new 0 a list (a + m) (omega arith)) in
     rw (add-suc, zero-add, front, kept, h m (omega arith))
+
+-- Zeros written over a part are that part made anew.
+pub zeros_renewed : (first n m : ℕ) (list : List ℕ) → n ≤ m → first + m ≤ length list
+    → paste list first (replicate m 0) n ≡ renewed (λ row count. 0) first n list
+unfolding renewed
+zeros_renewed first zero m list h l = sym (paste-zero list first (replicate m 0))
+zeros_renewed first (suc n) m list h l =
+    sym (paste-suc list first (replicate m 0) n 0 (omega arith) (omega (arith, length-replicate {A = ℕ} m 0)))
+    ∙ rw (zeros_at m n, zeros_renewed first n m list (omega arith) l)

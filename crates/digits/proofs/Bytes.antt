@@ -1,12 +1,12 @@
 -- The bytes that a line of digits stands for: how many, which, and how a loop puts them into an array. Assumes nothing.
-use mathlib.Core.Path.{◌≡◌, refl, sym, ap, ap₂, ◌∙◌}
-use mathlib.Core.List.{List, append-nil}
+use mathlib.Core.Path.{◌≡◌, refl, sym, ap, ◌∙◌}
+use mathlib.Core.List.{List}
 use Prim.Native.Nat.{ℕ, zero, suc, ◌+◌, ◌≤◌, ◌<◌}
-use native.Mathlib.Nat.{add-zero, add-suc, suc-add, zero-add, le_of_suc-le-suc, not-suc-le-zero, le_antisymm}
-use native.Mathlib.Numerals.{add-one}
+use native.Mathlib.Nat.{add-zero, add-suc, suc-add, zero-add, le_of_suc-le-suc, not-suc-le-zero}
 use native.Mathlib.Omega.{arith}
-use lib.ListN.{length, get_or, set, replicate, length-replicate, drop_of_length-le}
-use lib.Seq.{paste, paste-zero, paste-suc, take_all}
+use borrow.Author.Count.{below_more}
+use lib.ListN.{length, get_or, set, length-set}
+use lib.Seq.{ext_get_or, get_or-set_same, get_or-set_other}
 use Rattle.digits.specs.Digits.{byte_at, bytes_from}
 
 length_bytes : (line : List ℕ) (i n : ℕ) → length (bytes_from line i n) ≡ n
@@ -23,34 +23,21 @@ bytes_at_from line i (suc n) (suc k) h = rw (add-suc, ← suc-add) (bytes_at_fro
 bytes_at : (line : List ℕ) (n k : ℕ) → k < n → get_or (bytes_from line 0 n) k 0 ≡ byte_at line k
 bytes_at line n k h = bytes_at_from line 0 n k h ∙ ap (byte_at line) (zero-add k)
 
--- An array of n zeros with its first i entries replaced by the line's first i bytes.
-unfoldable pub bytes_up_to : ℕ → List ℕ → ℕ → List ℕ
-bytes_up_to n line i = paste (replicate n 0) 0 (bytes_from line 0 n) i
-
--- The invariant of a loop that fills an array of n entries: it has come as far as i.
+-- The invariant of a loop that fills n bytes: those below i are the line's.
 abbrev pub FilledUpTo : ℕ → List ℕ → List ℕ → ℕ → Type 0
-FilledUpTo n line array i = (i ≤ n) × (array ≡ bytes_up_to n line i)
+FilledUpTo n line bytes i = record { size : length bytes ≡ n; filled : (k : ℕ) → k < i → get_or bytes k 0 ≡ byte_at line k }
 
-pub filled_none : (n : ℕ) (line : List ℕ) → FilledUpTo n line (replicate n 0) 0
-unfolding bytes_up_to
-filled_none n line = (omega arith, paste-zero (replicate n 0) 0 (bytes_from line 0 n))
+module _ (n : ℕ) (line bytes : List ℕ) (i : ℕ) (f : FilledUpTo n line bytes i) where
+  pub filled_more : i < n → (byte : ℕ) → byte ≡ byte_at line i → FilledUpTo n line (set bytes i byte) (i + 1)
+  filled_more h byte e =
+      record {
+        size = simp length-set f.size;
+        filled = below_more _ i
+            (λ k b. get_or-set_other bytes i k byte 0 (λ (q : k ≡ i). omega arith) ∙ f.filled k b)
+            (get_or-set_same bytes i byte 0 (omega (arith, f.size)) ∙ e);
+      }
 
-module _ (n : ℕ) (line array : List ℕ) (i : ℕ) (f : FilledUpTo n line array i) where
-  pub filled_more : i < n → (byte : ℕ) → byte ≡ byte_at line i → FilledUpTo n line (set array i byte) (i + 1)
-  unfolding bytes_up_to
-  filled_more h byte e = (
-    omega arith,
-    rw (f.1, e)
-        (ap₂ (λ (j x : ℕ). set (bytes_up_to n line i) j x) (sym (zero-add i)) (sym (bytes_at line n i h))
-        ∙ paste-suc (replicate n 0) 0 (bytes_from line 0 n) i 0 (omega (arith, length-replicate {A = ℕ} n 0)) (omega (arith, length_bytes line 0 n))
-        ∙ ap (bytes_up_to n line) (sym (add-one i))),
-  )
-
-  pub filled_all : n ≤ i → array ≡ bytes_from line 0 n
-  unfolding bytes_up_to
+  pub filled_all : n ≤ i → bytes ≡ bytes_from line 0 n
   filled_all h =
-      f.1 ∙ ap (bytes_up_to n line) (le_antisymm f.0 h)
-      ∙ rw (
-        take_all n (bytes_from line 0 n) (omega (arith, length_bytes line 0 n)),
-        drop_of_length-le {A = ℕ} (replicate n 0) {i = 0 + n} (omega (arith, length-replicate {A = ℕ} n 0)),
-      ) (append-nil (bytes_from line 0 n))
+      ext_get_or 0 bytes (bytes_from line 0 n) (f.size ∙ sym (length_bytes line 0 n))
+      (λ k b. f.filled k (omega (arith, f.size)) ∙ sym (bytes_at line n k (omega (arith, f.size))))

@@ -1,18 +1,16 @@
--- Characters that are digits: what one stands for, and how a loop with a flag finds out that a line has no others. Assumes nothing.
-use mathlib.Core.Path.{◌≡◌, refl, ◌∙◌}
-use mathlib.Core.Bool.{Bool, true, false, ◌&&◌}
+-- Characters that are digits: what one stands for, and which in a line are. Assumes nothing.
+use mathlib.Core.Path.{◌≡◌, refl}
+use mathlib.Core.Bool.{Bool, true, false}
 use mathlib.Core.List.{List, [], ◌∷◌}
 use mathlib.Core.Logic.{◌⊎◌, inl, inr, ⊎_elim}
-use Prim.Native.Nat.{ℕ, zero, suc, ◌+◌, ◌≤◌, ◌<◌}
+use Prim.Native.Nat.{ℕ, zero, suc, ◌≤◌, ◌<◌}
 use native.Mathlib.Nat.{le_of_suc-le-suc, not-suc-le-zero}
-use native.Mathlib.Numerals.{add-one}
 use native.Mathlib.Omega.{arith}
 use borrow.Author.Tests.{leb-true, le-leb, lt-leb}
 use lib.Dec.{leb}
-use lib.ListN.{length, get_or, drop, drop_of_length-le}
-use lib.Seq.{drop-cons}
-use Rattle.basics.specs.Choice.{both, between, either}
-use Rattle.basics.proofs.Flags.{flag_tells, left_of_both, right_of_both}
+use lib.ListN.{length, get_or}
+use Rattle.basics.specs.Choice.{between, either}
+use Rattle.basics.proofs.Flags.{left_of_both, right_of_both}
 use Rattle.digits.specs.Digits.{is_digit, value_of, all_digits}
 
 -- A digit is one of the characters 48 to 57, or one of 65 to 70.
@@ -22,9 +20,6 @@ digit_limits c d = go (between 48 57 c) refl d
     go : (t : Bool) → between 48 57 c ≡ t → either t (between 65 70 c) ≡ true → ((48 ≤ c) × (c ≤ 57)) ⊎ ((65 ≤ c) × (c ≤ 70))
     go true e h = inl (leb-true 48 c (left_of_both (leb 48 c) (leb c 57) e), leb-true c 57 (right_of_both (leb 48 c) (leb c 57) e))
     go false e h = inr (leb-true 65 c (left_of_both (leb 65 c) (leb c 70) h), leb-true c 70 (right_of_both (leb 65 c) (leb c 70) h))
-
-pub digit_from_48 : (c : ℕ) → is_digit c ≡ true → 48 ≤ c
-digit_from_48 c d = ⊎_elim (λ w. w.0) (λ w. omega arith) (digit_limits c d)
 
 value_below_16 : (c : ℕ) → is_digit c ≡ true → value_of c < 16
 value_below_16 c d =
@@ -42,18 +37,3 @@ unfolding all_digits
 value_at_below_16 [] i d = omega arith
 value_at_below_16 (c ∷ cs) zero d = value_below_16 c (left_of_both (is_digit c) (all_digits cs) d)
 value_at_below_16 (c ∷ cs) (suc i) d = value_at_below_16 cs i (right_of_both (is_digit c) (all_digits cs) d)
-
--- The loop: the line is all digits if the characters so far were, and those from p on are.
-module _ (line : List ℕ) (p : ℕ) (flag : Bool) (i : all_digits line ≡ both flag (all_digits (drop p line))) where
-  module _ (h : p < length line) (b : Bool) (e : b ≡ is_digit (get_or line p 0)) where
-    pub digits_more : all_digits line ≡ both (flag && b) (all_digits (drop (p + 1) line))
-    unfolding all_digits
-    digits_more = i ∙ rw (e, add-one, drop-cons line p 0) (joined flag (is_digit (get_or line p 0)) (all_digits (drop (suc p) line)))
-      where
-        joined : (x y z : Bool) → both x (both y z) ≡ both (x && y) z
-        joined true y z = refl
-        joined false y z = refl
-
-  pub digits_end : length line ≤ p → flag ≡ all_digits line
-  unfolding all_digits
-  digits_end h = flag_tells (all_digits line) flag (i ∙ rw drop_of_length-le)

@@ -8,18 +8,16 @@ ghost use Rattle.digits.specs.Digits.{is_digit, value_of, all_digits, Digits, by
 fn is_digit(c: u8) -> bool
     ensures { result ≡ is_digit c }
 {
-    ((48 <= c) & (c <= 57)) | ((65 <= c) & (c <= 70))
+    ((b'0' <= c) & (c <= b'9')) | ((b'A' <= c) & (c <= b'F'))
 }
 
-// Every character is a digit.
+// Every character is a digit. An early exit, as `all` has it, would take them one by one.
 pub fn all_digits(line: &[u8]) -> bool
     ensures { result ≡ all_digits line.now }
 {
     let mut good = true;
-    let mut i: usize = 0;
-    while i < line.len() {
-        good = good & is_digit(line[i]);
-        i += 1;
+    for c in line {
+        good &= is_digit(*c);
     }
     good
 }
@@ -29,7 +27,10 @@ fn value_of(c: u8) -> u8
     requires { is_digit c ≡ true }
     ensures { result ≡ value_of c }
 {
-    if c <= 57 { c - 48 } else { c - 55 }
+    match c {
+        0..=b'9' => c - b'0',
+        _ => c - b'A' + 10,
+    }
 }
 
 // The byte that the digits 2 i and 2 i + 1 stand for.
@@ -42,32 +43,16 @@ fn byte_at(line: &[u8], i: usize) -> u8
     16 * high + low
 }
 
-// The 18 bytes of a scan.
-pub fn scan_in(line: &[u8]) -> [u8; 18]
-    requires { Digits 36 line.now }
-    ensures { result ≡ bytes_from line.now 0 18 }
+// The bytes of a line of digits: the 18 of a scan, the 144 of a map.
+pub fn bytes_in<const N: usize>(line: &[u8]) -> [u8; N]
+    requires { Digits (2 * N) line.now }
+    ensures { result ≡ bytes_from line.now 0 N }
 {
-    let mut scan = [0u8; 18];
-    let mut i: usize = 0;
-    while i < 18 {
-        scan[i] = byte_at(line, i);
-        i += 1;
+    let mut bytes = [0u8; N];
+    for (i, byte) in bytes.iter_mut().enumerate() {
+        *byte = byte_at(line, i);
     }
-    scan
-}
-
-// The 144 bytes of a map.
-pub fn map_in(line: &[u8]) -> [u8; 144]
-    requires { Digits 288 line.now }
-    ensures { result ≡ bytes_from line.now 0 144 }
-{
-    let mut map = [0u8; 144];
-    let mut i: usize = 0;
-    while i < 144 {
-        map[i] = byte_at(line, i);
-        i += 1;
-    }
-    map
+    bytes
 }
 
 // The number of a frame.
@@ -75,9 +60,9 @@ pub fn frame_in(line: &[u8]) -> u32
     requires { Digits 3 line.now }
     ensures { result ≡ frame_in line.now }
 {
-    let high = value_of(line[0]) as u32;
-    let middle = value_of(line[1]) as u32;
-    let low = value_of(line[2]) as u32;
+    let high = u32::from(value_of(line[0]));
+    let middle = u32::from(value_of(line[1]));
+    let low = u32::from(value_of(line[2]));
     256 * high + 16 * middle + low
 }
 
@@ -86,8 +71,8 @@ pub fn digit_of(n: u8) -> u8
     requires { n < 16 }
     ensures { result ≡ digit_of n }
 {
-    if n <= 9 {
-        return n + 48;
+    match n {
+        0..=9 => b'0' + n,
+        _ => b'A' - 10 + n,
     }
-    n + 55
 }

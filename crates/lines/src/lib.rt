@@ -20,8 +20,8 @@ pub fn step_in_place(dock: &mut Dock, line: &[u8]) -> Printed
     match text::kind_of(line) {
         Kind::Read => read_prints(Ok(wire::read::read_in_place(dock))),
         Kind::Frame => answer_prints(wire::frame::frame_in_place(dock, digits::frame_in(line))),
-        Kind::Scan => answer_prints(scan::scan_in_place(dock, &digits::scan_in(line))),
-        Kind::Map => answer_prints(swap::swap_in_place(dock, &digits::map_in(line))),
+        Kind::Scan => answer_prints(scan::scan_in_place(dock, &digits::bytes_in::<18>(line))),
+        Kind::Map => answer_prints(swap::swap_in_place(dock, &digits::bytes_in::<144>(line))),
         Kind::Malformed => Err(8),
     }
 }

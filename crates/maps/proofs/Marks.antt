@@ -1,6 +1,6 @@
 -- Keys marked as they are met, each by itself: what the marks say of the entries still to come. Assumes nothing.
 use mathlib.Core.Path.{◌≡◌, refl, sym, ap, ◌∙◌}
-use mathlib.Core.Bool.{Bool, true, false, not}
+use mathlib.Core.Bool.{Bool, true, false, not, ◌||◌}
 use mathlib.Core.List.{List, [], ◌∷◌}
 use Prim.Native.Nat.{ℕ, zero, suc, ◌+◌, ◌<◌, ◌≤◌}
 use native.Mathlib.Numerals.{add-one}
@@ -11,7 +11,8 @@ use lib.Dec.{eqb}
 use lib.ListN.{length, get_or, set, drop, replicate, drop_of_length-le}
 use lib.Seq.{drop-cons, set-get_or, get_or-set_same, get_or-set_other}
 use Rattle.basics.specs.Choice.{either}
-use Rattle.basics.proofs.Cases.{either_true, either_false}
+use Rattle.basics.proofs.Cases.{either_false}
+use Rattle.basics.proofs.Flags.{either_so_far}
 use Rattle.basics.proofs.Zeros.{zeros_at}
 use Rattle.keys.specs.Keys.{last_key}
 use Rattle.maps.specs.Maps.{is_in, has_double}
@@ -81,15 +82,12 @@ zero_unmarked (x ∷ seen) zero z = refl
 zero_unmarked (x ∷ seen) (suc k) z = z
 
 module _ (l seen : List ℕ) (p : ℕ) (double : Bool) (i : has_double l ≡ either double (to_find seen (drop p l))) where
-  module _ (h : p < length l) (k : ℕ) (e : k ≡ get_or l p 0) (b : k < length seen) (z : get_or seen 0 0 ≡ 0) (r : Bool) where
+  module _ (h : p < length l) (k : ℕ) (e : k ≡ get_or l p 0) (b : k < length seen) (z : get_or seen 0 0 ≡ 0) where
     turn : has_double l ≡ either double (either (marked seen k) (to_find (set seen k k) (drop (p + 1) l)))
     turn = i ∙ rw (add-one, drop-cons l p 0, ← e, next seen k b z)
 
-    pub double_met : (get_or seen k 0 ≡ 0 → ⊥) → r ≡ true → has_double l ≡ either r (to_find (set seen k k) (drop (p + 1) l))
-    double_met n f = rw f (turn ∙ rw (ne_eqb (get_or seen k 0) 0 n) (either_true double))
-
-    pub double_not_met : get_or seen k 0 ≡ 0 → r ≡ double → has_double l ≡ either r (to_find (set seen k k) (drop (p + 1) l))
-    double_not_met n f = rw f (turn ∙ rw (eq-eqb (get_or seen k 0) 0 n))
+    pub double_more : has_double l ≡ either (double || marked seen k) (to_find (set seen k k) (drop (p + 1) l))
+    double_more = turn ∙ either_so_far double (marked seen k) (to_find (set seen k k) (drop (p + 1) l))
 
   pub double_end : length l ≤ p → double ≡ has_double l
   unfolding to_find any_marked has_double

@@ -1,28 +1,10 @@
--- Columns with two closed rows: what each turn of the search for them finds out, and that no others share. Assumes nothing.
-use Rattle.std.proofs.Common.{◌≡◌, ℕ, zero, suc, ◌+◌, ◌/◌, ◌%◌, ◌<◌, ◌≤◌, Bool, true, false, List, [], ◌∷◌, length, get_or, drop, sym, refl, ◌∙◌, add-one, arith, drop_of_length-le, drop-cons, leb-false}
+-- No columns share but those with two closed rows. Assumes nothing.
+use Rattle.std.proofs.Common.{◌≡◌, ℕ, zero, suc, ◌/◌, ◌%◌, ◌<◌, ◌≤◌, Bool, true, false, List, [], ◌∷◌, sym, refl, ◌∙◌, arith, leb-false}
 use borrow.Author.Tests.{lt-leb}
 use lib.Bits.{bit_and, and_shr, and_mod, and_le_l, and_zero_l}
 use lib.Count.{ones, ones_step}
 use Rattle.basics.specs.Choice.{either}
-use Rattle.basics.proofs.Cases.{either_true, either_false}
 use Rattle.phantom.specs.Phantom.{two_closed, shares_any, is_phantom, any_two_closed}
-
--- The test of all columns for one with two closed rows.
-module _ (s : List ℕ) (j : ℕ) (h : j < length s)
-    (b : Bool) (e : b ≡ two_closed (get_or s j 0)) (any : Bool) (i : any_two_closed s ≡ either any (any_two_closed (drop j s))) where
-  any_at : any_two_closed s ≡ either any (either b (any_two_closed (drop (j + 1) s)))
-  unfolding any_two_closed
-  any_at = i ∙ rw (e, add-one, drop-cons s j 0)
-
-  pub any_yes : b ≡ true → (r : Bool) → r ≡ true → any_two_closed s ≡ either r (any_two_closed (drop (j + 1) s))
-  any_yes t r f = rw (f, any_at, t) (either_true any)
-
-  pub any_no : b ≡ false → (r : Bool) → r ≡ any → any_two_closed s ≡ either r (any_two_closed (drop (j + 1) s))
-  any_no t r f = rw (f, any_at, t)
-
-pub any_end : (s : List ℕ) (j : ℕ) (any : Bool) → length s ≤ j → any_two_closed s ≡ either any (any_two_closed (drop j s)) → any ≡ any_two_closed s
-unfolding any_two_closed
-any_end s j any h i = sym (i ∙ rw drop_of_length-le (either_false any))
 
 -- Two columns have no more closed rows in common than one of them has.
 ones_and : (n a b : ℕ) → a ≤ n → ones (bit_and a b) ≤ ones a

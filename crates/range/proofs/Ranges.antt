@@ -1,11 +1,10 @@
 -- What a record in its range gives, part by part, and back; and which new parts leave it in its range. Assumes nothing.
-use mathlib.Core.Path.{◌≡◌, refl, sym}
-use mathlib.Core.Bool.{Bool, true, false, not}
+use mathlib.Core.Path.{◌≡◌}
+use mathlib.Core.Bool.{Bool, true}
 use mathlib.Core.List.{List, []}
 use Prim.Native.Nat.{ℕ, ◌≤◌}
 use borrow.Author.Tests.{leb-true, le-leb}
 use Rattle.basics.specs.Lists.{all_up_to}
-use Rattle.basics.proofs.Cases.{never}
 use Rattle.basics.proofs.Flags.{left_of_both, right_of_both}
 use Rattle.keys.specs.Keys.{last_key}
 use Rattle.contacts.specs.Counts.{Contacts}
@@ -156,12 +155,3 @@ module _ (d : Dock) (h : in_range d ≡ true) where
   pub in_range_with_given : (given : ℕ) → in_range (with_given d given) ≡ true
   unfolding in_range good_rest
   in_range_with_given given = h
-
--- A record that was looked at and found in its range, or not.
-pub found_good : (d : Dock) (good : Bool) → good ≡ in_range d → not good ≡ false → in_range d ≡ true
-found_good d true e f = sym e
-found_good d false e f = never true refl f
-
-pub found_bad : (d : Dock) (good : Bool) → good ≡ in_range d → not good ≡ true → in_range d ≡ false
-found_bad d false e f = sym e
-found_bad d true e f = never false f refl

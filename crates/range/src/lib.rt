@@ -1,28 +1,12 @@
-// Is every part of a record in its range (docs/RECORD.md). The loops keep a flag and run to their ends, so that the compiler takes sixteen entries at a time;
-// the tests are joined by `&` and `|`, so that there is one way through.
+// Is every part of a record in its range (docs/RECORD.md). The tests are joined by `&` and `|`, so that there is one way through.
 #![tactic(auto)]
 
 ghost use Rattle.std.specs.Prelude.{◌≡◌};
-ghost use Rattle.basics.specs.Lists.{all_up_to};
 ghost use Rattle.range.specs.Range.{good_mode, good_outgoing, good_rest, takes_value, in_range};
 
+pub use basics::all_up_to;
 use hostbytes::{CHOOSE_SET, INDICATORS, KEY_TYPE, LAST_KEY_TYPE, RATE};
 use record::{Dock, Mode, Outgoing, Rest};
-
-// No entry is over a limit.
-pub fn all_up_to(limit: u8, list: &[u8]) -> bool
-    ensures { result ≡ all_up_to limit list.now }
-{
-    let mut good = true;
-    let mut i: usize = 0;
-    while i < list.len() {
-        if limit < list[i] {
-            good = false;
-        }
-        i += 1;
-    }
-    good
-}
 
 // A set, a rate and indicators that the host can choose.
 fn is_good_mode(mode: Mode) -> bool

@@ -3,30 +3,26 @@ use native.Mathlib.Omega.{arith}
 use Rattle.contacts.specs.Counts.{contacts}
 use Rattle.contacts.proofs.Passes.{counted_none, still_more, stirred_more, counted_all_lem}
 use Rattle.contacts.proofs.count.Goals as goal
-use Rattle.contacts.proofs.count.Goals.{else-scan-c, then-scan-c}
+use Rattle.contacts.proofs.count.Goals.{then-seen-closed, else-seen-closed}
 
-pub loop-c-init : goal.loop-c-init
-loop-c-init c =
-    let a = c.args in
-    (omega arith, counted_none (contacts a.closed.now a.counts.now) _)
+pub loop-column-init : goal.loop-column-init
+loop-column-init c = counted_none (contacts c.args.closed.now c.args.counts.now) _
 
-pub loop-c-preserved : goal.loop-c-preserved
-loop-c-preserved c =
+pub loop-column-preserved : goal.loop-column-preserved
+loop-column-preserved c =
     let a = c.args in
     let k = contacts a.closed.now a.counts.now in
-    let i = c.loop-c.invariant.1 in
-    let before = contacts c.loop-c.closed c.loop-c.counts in
-    let after = contacts c.if-scan-c.closed c.if-scan-c.counts in (
-      omega arith,
-      elim c.if-scan-c.branch [
-        | then-scan-c w ↦ still_more k a.scan.now c.loop-c.c before after i w.if-scan-c.true (omega arith) w.closed-is (w.counts-is ∙ w.still.ensures)
-        | else-scan-c w ↦ stirred_more k a.scan.now c.loop-c.c before after i _ w.stirred.ensures.contacts w.closed-is (w.counts-is ∙ w.stirred.ensures.counts)
-      ],
-    )
+    let l = c.loop-column in
+    let before = contacts l.closed l.counts in
+    let after = contacts c.if-seen-closed.closed c.if-seen-closed.counts in
+    elim c.if-seen-closed.branch [
+      | then-seen-closed w ↦ still_more k a.scan.now l.column before after l.invariant w.if-seen-closed.true (omega arith) w.closed-is (w.counts-is ∙ w.still.ensures)
+      | else-seen-closed w ↦ stirred_more k a.scan.now l.column before after l.invariant _ w.stirred.ensures.contacts w.closed-is (w.counts-is ∙ w.stirred.ensures.counts)
+    ]
 
 pub returns : goal.returns
 returns c =
     let a = c.args in
-    let k = contacts a.closed.now a.counts.now in
-    counted_all_lem k a.scan.now c.requires.closed c.requires.counts c.loop-c.c (contacts c.loop-c.closed c.loop-c.counts) c.loop-c.invariant.0
-    c.loop-c-test.false c.loop-c.invariant.1
+    let l = c.loop-column in
+    counted_all_lem (contacts a.closed.now a.counts.now) a.scan.now (omega arith) (omega arith) l.column (contacts l.closed l.counts) (omega arith)
+    c.loop-column-test.false l.invariant

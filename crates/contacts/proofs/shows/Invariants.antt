@@ -1,6 +1,5 @@
 -- `contacts::shows` meets its contract. The loop's invariant: the scan shows what counts if it did so far and does from
--- column i on. The measure is what is left of the columns. Assumes nothing.
-use Prim.Native.Nat.{◌-◌}
+-- column i on. Assumes nothing.
 use mathlib.Core.Path.{◌≡◌}
 use lib.ListN.{drop}
 use Rattle.basics.specs.Choice.{both}
@@ -9,6 +8,3 @@ use Rattle.contacts.proofs.shows.Given as goal
 
 abbrev pub invariant-loop-i : goal.invariant-loop-i
 invariant-loop-i l = same l.scan l.closed ≡ both l.all (same (drop l.i l.scan) (drop l.i l.closed))
-
-abbrev pub decreases-loop-i : goal.decreases-loop-i
-decreases-loop-i l = 18 - l.i

@@ -1,13 +1,18 @@
-use mathlib.Core.Path.{refl}
+-- `contacts::still` meets its contract: eight zeros written at once are the counts made anew one by one. Assumes nothing.
+use mathlib.Core.Path.{◌≡◌, refl, ap, ◌∙◌}
+use Prim.Native.Nat.{ℕ, ◌+◌, ◌*◌, ◌-◌}
 use native.Mathlib.Omega.{arith}
-use Rattle.contacts.proofs.Renewals.{renewed_none, renewed_more, renewed_end}
+use lib.ListN.{length, take, drop, replicate, length-drop}
+use lib.Seq.{length-take-le}
+use Rattle.std.proofs.lemmas.Slice.{put_mid-paste}
+use Rattle.contacts.proofs.Renewals.{zeros_renewed}
 use Rattle.contacts.proofs.still.Goals as goal
 
-pub loop-r-init : goal.loop-r-init
-loop-r-init c = (omega arith, renewed_none _ _ _)
-
-pub loop-r-preserved : goal.loop-r-preserved
-loop-r-preserved c = (omega arith, renewed_more _ _ _ _ _ _ c.loop-r.invariant.1 refl)
-
 pub returns : goal.returns
-returns c = renewed_end _ _ _ _ _ 8 c.loop-r.invariant.0 c.loop-r-test.false c.loop-r.invariant.1
+returns c =
+    let first = 8 * c.args.column in
+    let counts = c.args.counts.now in
+    let eight : length (take (first + 8 - first) (drop first counts)) ≡ 8 = length-take-le (first + 8 - first) (drop first counts) (simp length-drop (omega arith)) ∙ omega arith in
+    put_mid-paste first _ counts c.fill.new.self (replicate 8 0) 8
+    (c.fill.ensures.after (λ y e. e) ∙ ap (λ (n : ℕ). replicate n 0) eight) (omega arith) refl
+    ∙ zeros_renewed first 8 8 counts (omega arith) (omega arith)

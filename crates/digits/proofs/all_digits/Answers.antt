@@ -1,13 +1,13 @@
 use mathlib.Core.Path.{refl}
-use Rattle.digits.proofs.Characters.{digits_more, digits_end}
+use Rattle.basics.proofs.Flags.{all_more, all_end}
+use Rattle.digits.specs.Digits.{is_digit, all_digits}
 use Rattle.digits.proofs.all_digits.Goals as goal
 
-pub loop-i-init : goal.loop-i-init
-loop-i-init c = refl
-
-pub loop-i-preserved : goal.loop-i-preserved
-loop-i-preserved c =
-    digits_more _ c.loop-i.i c.loop-i.good c.loop-i.invariant c.loop-i-test.true _ c.is_digit-good.ensures
+pub loop-c-preserved : goal.loop-c-preserved
+unfolding all_digits
+loop-c-preserved c =
+    all_more all_digits is_digit refl (λ x xs. refl) _ c.loop-c.c-index _ c.loop-c.invariant c.loop-c-test.true _ c.is_digit-good.ensures
 
 pub returns : goal.returns
-returns c = digits_end _ c.loop-i.i _ c.loop-i.invariant c.loop-i-test.false
+unfolding all_digits
+returns c = all_end all_digits is_digit refl (λ x xs. refl) _ c.loop-c.c-index _ c.loop-c.invariant c.loop-c-test.false

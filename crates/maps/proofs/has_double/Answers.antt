@@ -3,40 +3,28 @@ use native.Mathlib.Omega.{arith}
 use lib.ListN.{length-set}
 use Rattle.basics.proofs.Limits.{up_to_at}
 use Rattle.keys.specs.Keys.{last_key}
-use Rattle.maps.proofs.Marks.{double_none, zero_unmarked, double_met, double_not_met, double_end}
+use Rattle.maps.proofs.Marks.{double_none, zero_unmarked, double_more, double_end}
 use Rattle.maps.proofs.has_double.Goals as goal
-use Rattle.maps.proofs.has_double.Goals.{else-seen-at-ne0, then-seen-at-ne0}
 
-pub loop-p-init : goal.loop-p-init
-loop-p-init c = (omega arith, refl, refl, double_none c.args.map.now)
+pub loop-key-init : goal.loop-key-init
+loop-key-init c = (refl, refl, double_none c.args.map.now)
 
-pub overflow_cast-at : goal.overflow_cast-at
-overflow_cast-at c =
-    omega (arith, up_to_at last_key c.args.map.now c.loop-p.p c.requires.entries)
+pub bounds-seen-place : goal.bounds-seen-place
+bounds-seen-place c = omega (arith, up_to_at last_key c.args.map.now c.loop-key.key-index c.requires)
 
-pub bounds-seen-at : goal.bounds-seen-at
-bounds-seen-at c =
-    omega (arith, up_to_at last_key c.args.map.now c.loop-p.p c.requires.entries)
+pub bounds-seen-place-in-loop-key : goal.bounds-seen-place-in-loop-key
+bounds-seen-place-in-loop-key c = omega (arith, up_to_at last_key c.args.map.now c.loop-key.key-index c.requires)
 
-pub bounds-seen-at-in-loop-p : goal.bounds-seen-at-in-loop-p
-bounds-seen-at-in-loop-p c =
-    omega (arith, up_to_at last_key c.args.map.now c.loop-p.p c.requires.entries)
-
-pub loop-p-preserved : goal.loop-p-preserved
-loop-p-preserved c =
+pub loop-key-preserved : goal.loop-key-preserved
+loop-key-preserved c =
     let map = c.args.map.now in
-    let key = up_to_at last_key map c.loop-p.p c.requires.entries in (
-      omega arith,
-      simp length-set c.loop-p.invariant.1,
-      zero_unmarked c.loop-p.seen _ c.loop-p.invariant.2,
-      elim c.if-seen-at-ne0.branch [
-        | then-seen-at-ne0 w ↦ double_met map c.loop-p.seen c.loop-p.p c.loop-p.double c.loop-p.invariant.3 (omega arith)
-            _ refl (omega arith) c.loop-p.invariant.2 _ w.if-seen-at-ne0.true w.double-is
-        | else-seen-at-ne0 w ↦ double_not_met map c.loop-p.seen c.loop-p.p c.loop-p.double c.loop-p.invariant.3 (omega arith)
-            _ refl (omega arith) c.loop-p.invariant.2 _ w.if-seen-at-ne0.false w.double-is
-      ],
+    let l = c.loop-key in
+    let key = up_to_at last_key map l.key-index c.requires in
+    rw c.from-place.ensures (
+      simp length-set l.invariant.0,
+      zero_unmarked l.seen _ l.invariant.1,
+      double_more map l.seen l.key-index l.double l.invariant.2 (omega arith) _ refl (omega arith) l.invariant.1,
     )
 
 pub returns : goal.returns
-returns c =
-    double_end c.args.map.now c.loop-p.seen c.loop-p.p c.loop-p.double c.loop-p.invariant.3 (omega arith)
+returns c = double_end c.args.map.now c.loop-key.seen c.loop-key.key-index c.loop-key.double c.loop-key.invariant.2 (omega arith)

