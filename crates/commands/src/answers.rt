@@ -4,7 +4,7 @@ ghost use Rattle.replies.specs.Replies.{replies_of};
 ghost use Rattle.commands.specs.Commands.{reply_to};
 
 use hostbytes::{ACKNOWLEDGED, AWAKE, ECHO, IDENTIFY, IDENTITY, IDENTITY_END, RESEND, RESET};
-use replies::{Replies, one, three, two};
+use replies::Replies;
 
 // What a command is answered with.
 #[tactic(auto, unfolding(crate::specs::Commands::reply_to))]
@@ -12,10 +12,10 @@ pub fn reply_to(byte: u8) -> Replies
     ensures { result ≡ replies_of (reply_to byte) }
 {
     match byte {
-        ECHO => one(ECHO),
-        0xef | 0xf1 => one(RESEND),
-        IDENTIFY => three(ACKNOWLEDGED, IDENTITY, IDENTITY_END),
-        RESET => two(ACKNOWLEDGED, AWAKE),
-        _ => one(ACKNOWLEDGED),
+        ECHO => Replies::of([ECHO]),
+        0xef | 0xf1 => Replies::of([RESEND]),
+        IDENTIFY => Replies::of([ACKNOWLEDGED, IDENTITY, IDENTITY_END]),
+        RESET => Replies::of([ACKNOWLEDGED, AWAKE]),
+        _ => Replies::of([ACKNOWLEDGED]),
     }
 }

@@ -19,7 +19,7 @@ use record::power::DEFAULT_RATE;
 fn clear(dock: &mut Dock)
     ensures { dock.new ≡ cleared dock.old }
 {
-    dock.rest.outgoing.queue = queue::empty();
+    dock.rest.outgoing.queue = queue::Queue::empty();
 }
 
 // No key byte waits, and no key repeats.

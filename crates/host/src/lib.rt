@@ -6,6 +6,7 @@ ghost use Rattle.commands.specs.Commands.{replying};
 ghost use Rattle.host.specs.Values.{took_byte};
 
 use record::Dock;
+use replies::Replies;
 
 mod values; // values.rt: the values that commands wait for
 
@@ -13,7 +14,7 @@ mod values; // values.rt: the values that commands wait for
 pub fn reply(dock: &mut Dock, byte: u8)
     ensures { dock.new ≡ replying (byte ∷ []) dock.old }
 {
-    dock.rest.replies = replies::one(byte);
+    dock.rest.replies = Replies::of([byte]);
 }
 
 // A byte from the host: FE has the last byte sent again, ED to FF are commands, and a byte below them is a value.

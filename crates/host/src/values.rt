@@ -9,6 +9,7 @@ use hostbytes::{
 };
 use lookup::{Set, Set3};
 use record::Dock;
+use replies::Replies;
 
 // What a right value asks of the command that waits for it.
 #[derive(Clone, Copy)]
@@ -56,7 +57,7 @@ pub fn take_value(dock: &mut Dock, byte: u8)
     match asked {
         Asked::Indicators(indicators) => dock.rest.mode.indicators = indicators,
         Asked::Set(set) => dock.rest.mode.set = set,
-        Asked::WhichSet => dock.rest.replies = replies::two(ACKNOWLEDGED, dock.rest.mode.set),
+        Asked::WhichSet => dock.rest.replies = Replies::of([ACKNOWLEDGED, dock.rest.mode.set]),
         Asked::Rate(rate) => dock.rest.mode.rate = rate,
         Asked::KeyType(key, kind) => dock.types[key as usize] = kind,
     }

@@ -15,13 +15,8 @@ use Rattle.record.specs.Views.{keys, Keys}
 use Rattle.record.specs.Held.{key_down, key_up}
 use Rattle.sending.specs.Sending.{sends, queued_of}
 use Rattle.sending.proofs.Sent.{sequence_is}
-use Rattle.keying.specs.declared.OutgoingRest.{OutgoingRest}
 use Rattle.keying.specs.Repeat.{delay_of}
-use Rattle.keying.specs.Changes.{keys_from, pressed, let_go, released_with, released}
-
--- The same parts make the same keys.
-pub keys_from_same : (held held' bytes bytes' : List ℕ) (rest rest' : OutgoingRest) → held ≡ held' → bytes ≡ bytes' → rest ≡ rest' → keys_from held bytes rest ≡ keys_from held' bytes' rest'
-keys_from_same held held' bytes bytes' rest rest' e f g = rw (e, f, g)
+use Rattle.keying.specs.Changes.{pressed, let_go, released_with, released}
 
 module _ (k : Keys) (m : Mode) (type key : ℕ) where
   pub released_by_its_bytes : (s : Sequence) → s ≡ holding (sends k m type key Release) → released_with k m key (contents s) ≡ released k m type key

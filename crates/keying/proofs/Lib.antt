@@ -3,4 +3,3 @@ pub mod Good
 pub mod Changes
 pub mod Due
 pub mod Places
-pub mod Once

@@ -5,17 +5,11 @@ use Rattle.codes.specs.declared.Action.TheVariants.{Press, Release}
 use Rattle.codes.specs.Codes.{may_repeat}
 use Rattle.contacts.specs.Scans.{contact_in, contact}
 use Rattle.queue.specs.declared.Queue.{Queue}
-use Rattle.queue.specs.Queues.{queue_with}
 use Rattle.record.specs.declared.Mode.{Mode}
 use Rattle.record.specs.Views.{keys, Keys}
 use Rattle.record.specs.Held.{key_down, key_up}
 use Rattle.sending.specs.Sending.{sends, queued_of}
-use Rattle.keying.specs.declared.OutgoingRest.{OutgoingRest}
 use Rattle.keying.specs.Repeat.{delay_of}
-
--- The keys of these parts: the flags, the bytes of the queue, and the rest.
-abbrev pub keys_from : List ℕ → List ℕ → OutgoingRest → Keys
-keys_from held bytes rest = keys held (queue_with bytes rest.length) rest.repeating rest.countdown
 
 -- A key is pressed: it is held, its bytes are queued, and it is the one that repeats, if it may; else none does.
 unfoldable pub pressed : Keys → Mode → ℕ → ℕ → Keys

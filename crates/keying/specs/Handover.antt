@@ -3,15 +3,13 @@ use Rattle.std.specs.Prelude.{ℕ, zero, suc, Bool, true, false, not, List, get_
 use Rattle.basics.specs.Choice.{pick, either}
 use Rattle.keys.specs.Keys.{last_key}
 use Rattle.codes.specs.declared.Action.TheVariants.{Release}
-use Rattle.queue.specs.Queues.{queue_with, waiting, has_room}
+use Rattle.queue.specs.Queues.{waiting, has_room}
 use Rattle.record.specs.declared.Mode.{Mode}
 use Rattle.record.specs.declared.Dock.{Dock}
-use Rattle.record.specs.Views.{Keys, keys_with}
+use Rattle.record.specs.Views.{Keys}
 use Rattle.record.specs.Parts.{with_keys, with_handover}
 use Rattle.record.specs.Held.{is_held}
 use Rattle.sending.specs.Sending.{sends}
-use Rattle.keying.specs.declared.HandedRest.{HandedRest}
-use Rattle.keying.specs.declared.OutgoingRest.{OutgoingRest}
 use Rattle.keying.specs.Changes.{released}
 
 -- The keys after a handover went on, and whether it is still open.
@@ -34,18 +32,6 @@ handed_from (suc n) key k m types =
 -- All keys, the lowest first.
 abbrev pub handed_over : Keys → Mode → List ℕ → Handed
 handed_over k m types = handed_from last_key 1 k m types
-
--- What the code gives of it, the flags having changed in place.
-abbrev pub handed_with : List ℕ → HandedRest → Handed
-handed_with held p = record { keys = keys_with held p.outgoing; unfinished = p.unfinished }
-
--- The same put together: the bytes of the queue, which the code works on in place, and the rest.
-abbrev pub handed_rest : List ℕ → OutgoingRest → Bool → HandedRest
-handed_rest bytes rest unfinished =
-    record {
-      outgoing = record { queue = queue_with bytes rest.length; repeating = rest.repeating; countdown = rest.countdown };
-      unfinished = unfinished;
-    }
 
 -- The record with the keys that were handed over, and the handover as far as it got.
 abbrev pub with_handed : Dock → Handed → Dock

@@ -6,6 +6,7 @@ ghost use Rattle.keying.specs.Ready.{Ready};
 ghost use Rattle.keying.specs.Repeat.{delay_of, interval_of, ticked, repeated};
 
 use codes::Action;
+use queue::Queue;
 use record::Dock;
 use sending::bytes_of;
 
@@ -53,6 +54,7 @@ pub fn repeat(dock: &mut Dock, quiet: bool)
     dock.rest.outgoing.countdown = interval_of(mode.rate);
     if quiet {
         let sequence = bytes_of(&dock.held, mode, kind, key, Action::Repeat);
-        dock.rest.outgoing.queue = queue::alone(sequence);
+        dock.rest.outgoing.queue = Queue::empty();
+        dock.rest.outgoing.queue.push(sequence, 0);
     }
 }

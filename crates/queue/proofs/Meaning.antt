@@ -1,8 +1,10 @@
 -- What a queue means: a queue in range is fixed by the bytes that wait in it. Assumes nothing.
-use mathlib.Core.Path.{◌≡◌, sym, ap₂}
-use mathlib.Core.Bool.{true}
+use mathlib.Core.Path.{◌≡◌, refl, sym, ap₂}
+use mathlib.Core.Bool.{Bool, true, false}
 use mathlib.Core.List.{List}
-use Prim.Native.Nat.{ℕ, ◌≤◌}
+use Prim.Native.Nat.{ℕ, ◌+◌, ◌-◌, ◌≤◌}
+use borrow.Author.Tests.{leb-true, leb-false, le-leb, lt-leb}
+use lib.Dec.{leb}
 use native.Mathlib.Omega.{arith}
 use lib.ListN.{length}
 use lib.Seq.{length-take-le, take-append_seam}
@@ -10,13 +12,21 @@ use Rattle.codes.specs.declared.Sequence.{Sequence}
 use Rattle.codes.specs.Sequences.{holding}
 use Rattle.codes.proofs.Adding.{holding_bytes}
 use Rattle.queue.specs.declared.Queue.{Queue}
-use Rattle.queue.specs.Queues.{queue_with, waiting, queue_of, tidy, contents}
+use Rattle.queue.specs.Queues.{queue_with, waiting, queue_of, tidy, contents, has_room}
 use Rattle.queue.proofs.Places.{filled_tidy, filled_places, tidy_array_short, tidy_array_count, tidy_array_is}
 
 -- As many bytes wait as the length says, if it is at most 16.
 pub count_waiting : (q : Queue) → length q.bytes ≡ 16 → q.length ≤ 16 → length (waiting q) ≡ q.length
 unfolding waiting
 count_waiting q places h = length-take-le q.length q.bytes (omega arith)
+
+-- So there is room for so many more as the code counts.
+pub room_as_counted : (q : Queue) → length q.bytes ≡ 16 → q.length ≤ 16 → (more : ℕ) → leb more (16 - q.length) ≡ has_room (waiting q) more
+room_as_counted q places h more = go (leb more (16 - q.length)) refl
+  where
+    go : (b : Bool) → leb more (16 - q.length) ≡ b → b ≡ has_room (waiting q) more
+    go true e = sym (le-leb (length (waiting q) + more) 16 (omega (arith, leb-true more (16 - q.length) e, count_waiting q places h)))
+    go false e = sym (lt-leb (length (waiting q) + more) 16 (omega (arith, leb-false more (16 - q.length) e, count_waiting q places h)))
 
 pub tidy_short : (q : Queue) → tidy q ≡ true → q.length ≤ 16
 unfolding tidy

@@ -1,61 +1,48 @@
--- Popping on the array: every byte moved one place to the front makes the queue without its oldest byte. Assumes nothing.
-use mathlib.Core.Path.{◌≡◌, refl, sym, ap, ap₂, ◌∙◌}
+-- Popping on the array, for any number of places: every byte moved one place to the front makes what waits without its oldest byte. Assumes nothing.
+use mathlib.Core.Path.{◌≡◌, sym, ap, ◌∙◌}
 use mathlib.Core.Bool.{true}
 use mathlib.Core.List.{List, [], ◌∷◌, ◌++◌}
-use Prim.Native.Nat.{ℕ, zero, suc, ◌+◌, ◌-◌, ◌≤◌, ◌<◌}
-use native.Mathlib.Nat.{le_antisymm}
-use native.Mathlib.Numerals.{add-one}
+use Prim.Native.Nat.{ℕ, ◌-◌}
 use native.Mathlib.Omega.{arith}
-use lib.ListN.{length, take, drop, set, get_or}
-use Rattle.queue.specs.declared.Queue.{Queue}
-use Rattle.queue.specs.Queues.{queue_with, waiting, queue_of, tidy}
-use Rattle.queue.proofs.Places.{zero_behind, popped_bytes, popped_count}
-use Rattle.queue.proofs.Meaning.{tidy_is}
+use lib.ListN.{length, take, drop, get_or}
+use Rattle.std.specs.Prelude.{Some, None, slice_get}
+use Rattle.std.proofs.lemmas.Option.{slice_get-get_or}
+use Rattle.std.proofs.lemmas.List.{get_or-take}
+use Rattle.queue.specs.Queues.{tidy_array}
+use Rattle.queue.proofs.Places.{filled, tidy_array_is, tidy_array_count, popped_bytes, popped_count}
 
--- The first i places have what stood one place behind them, the others what they had.
-unfoldable pub moved : List ℕ → ℕ → List ℕ
-moved b i = take i (drop 1 b) ++ drop i b
+-- The array after, and how many wait in it then, are those of the bytes without the oldest.
+abbrev pub Popped : ℕ → List ℕ → ℕ → List ℕ → ℕ → Type 0
+Popped places b n after count =
+    record { bytes : after ≡ filled places (drop 1 (take n b)); count : count ≡ length (drop 1 (take n b)) }
 
-pub moved_none : (b : List ℕ) → b ≡ moved b 0
-unfolding moved
-moved_none b = refl
+module _ (places : ℕ) (b : List ℕ) (n : ℕ) (t : tidy_array places b n ≡ true) (long : length b ≡ places) where
+  -- Where nothing waits there is no oldest byte, and nothing changes.
+  module _ (h : n ≡ 0) where
+    none_waits : take n b ≡ []
+    none_waits = ap (λ (k : ℕ). take k b) h
 
-one_more : (b : List ℕ) (i : ℕ) → suc i < length b → set (moved b i) i (get_or b (suc i) 0) ≡ moved b (suc i)
-unfolding moved
-one_more (x ∷ y ∷ b) zero h = refl
-one_more (x ∷ y ∷ b) (suc i) h = ap (λ (r : List ℕ). y ∷ r) (one_more (y ∷ b) i (omega arith))
-one_more [] i h = absurd (omega arith)
-one_more (x ∷ []) i h = absurd (omega arith)
+    pub no_oldest : None ≡ slice_get (take n b) 0
+    no_oldest = rw none_waits
 
-pub moved_more : (b a : List ℕ) (i byte : ℕ) → a ≡ moved b i → byte ≡ get_or b (i + 1) 0 → i + 1 < length b → set a i byte ≡ moved b (i + 1)
-moved_more b a i byte e f h = rw (e, f, add-one) (one_more b i (omega arith))
+    pub nothing_popped : Popped places b n b n
+    nothing_popped =
+        let same : take n b ≡ drop 1 (take n b) = none_waits ∙ ap (λ (l : List ℕ). drop 1 l) (sym none_waits) in
+        record {
+          bytes = tidy_array_is places b n t long ∙ ap (filled places) same;
+          count = sym (tidy_array_count places b n t long) ∙ ap length same;
+        }
 
--- When all places but the last are moved, and the last is 0.
-moved_all : (b : List ℕ) (k : ℕ) → length b ≡ suc k → set (moved b k) k 0 ≡ drop 1 b ++ 0 ∷ []
-unfolding moved
-moved_all (x ∷ []) zero e = refl
-moved_all (x ∷ y ∷ b) (suc k) e = ap (λ (r : List ℕ). y ∷ r) (moved_all (y ∷ b) k (omega arith))
-moved_all [] k e = absurd (omega arith)
-moved_all (x ∷ []) (suc k) e = absurd (omega arith)
-moved_all (x ∷ y ∷ b) zero e = absurd (omega arith)
+  -- Else the oldest is the first, and a zero follows the others.
+  module _ (h : n ≡ 0 → ⊥) where
+    pub oldest_first : Some (get_or b 0 0) ≡ slice_get (take n b) 0
+    oldest_first =
+        let first = get_or-take n b 0 0 (omega arith) in
+        ap (λ (x : ℕ). Some x) (sym first) ∙ sym (slice_get-get_or (take n b) 0 0 (omega (arith, tidy_array_count places b n t long)))
 
--- Behind the bytes that wait stand zeros.
-pub zero_past : (q : Queue) → tidy q ≡ true → (i : ℕ) → q.length ≤ i → 0 ≡ get_or q.bytes i 0
-unfolding tidy
-zero_past q t = zero_behind 16 q.bytes q.length t
-
-module _ (q : Queue) (t : tidy q ≡ true) (places : length q.bytes ≡ 16) where
-  pub popped_empty : q.length ≡ 0 → q ≡ queue_of (drop 1 (waiting q))
-  unfolding waiting
-  popped_empty h =
-      let none : take q.length q.bytes ≡ [] = ap (λ (n : ℕ). take n q.bytes) h in
-      tidy_is q places t ∙ ap queue_of (none ∙ ap (λ (l : List ℕ). drop 1 l) (sym none))
-
-  pub popped_by_moving : (b : List ℕ) (i : ℕ) → (q.length ≡ 0 → ⊥) → i ≤ 15 → 15 ≤ i → b ≡ moved q.bytes i
-      → queue_with (set b 15 0) (q.length - 1) ≡ queue_of (drop 1 (waiting q))
-  unfolding queue_of waiting tidy
-  popped_by_moving b i some low high e =
-      let all : b ≡ moved q.bytes 15 = e ∙ ap (λ (n : ℕ). moved q.bytes n) (le_antisymm low high) in
-      let bytes = ap (λ (a : List ℕ). set a 15 0) all ∙ moved_all q.bytes 15 places in
-      let waits : 1 ≤ q.length = omega arith in
-      ap₂ queue_with (bytes ∙ popped_bytes 16 q.bytes q.length t places waits) (popped_count 16 q.bytes q.length t places waits)
+    pub popped_by_moving : (after : List ℕ) → after ≡ drop 1 b ++ 0 ∷ [] → Popped places b n after (n - 1)
+    popped_by_moving after e =
+        record {
+          bytes = e ∙ popped_bytes places b n t long (omega arith);
+          count = popped_count places b n t long (omega arith);
+        }

@@ -1,10 +1,13 @@
 // Bytes that wait to be read (docs/RULES.md, section 7): first in, first out, 16 at most.
 #![tactic(auto)]
 
-ghost use Rattle.std.specs.Prelude.{◌≡◌, true, [], ◌≤◌, length, drop};
-ghost use Rattle.queue.specs.Queues.{queue_with, waiting, queue_of, tidy, contents, room_for, last_replaced, pushed_to};
+ghost use Rattle.std.specs.Prelude.{◌≡◌, true, [], ◌≤◌, drop, slice_get};
+ghost use Rattle.queue.specs.Queues.{waiting, queue_of, tidy, contents, room_for, has_room, last_replaced, pushed_to};
 
+use crate::arrays::{is_tidy_array, moved_up};
 use codes::Sequence;
+
+pub mod arrays; // arrays.rt: bytes at the front of an array, of any size
 
 // The first `length` of `bytes` wait, the oldest in front; zeros stand behind them.
 #[derive(Clone, Copy)]
@@ -13,107 +16,67 @@ pub struct Queue {
     pub length: usize,
 }
 
-// Nothing waits.
-pub fn empty() -> Queue
-    ensures { result ≡ queue_of [] }
-{
-    Queue {
-        bytes: [0; 16],
-        length: 0,
+impl Queue {
+    // Nothing waits.
+    pub fn empty() -> Self
+        ensures { result ≡ queue_of [] }
+    {
+        Queue {
+            bytes: [0; 16],
+            length: 0,
+        }
     }
-}
 
-// At most 16 bytes wait, and zeros stand behind them.
-pub fn is_tidy(queue: Queue) -> bool
-    ensures { result ≡ tidy queue }
-{
-    let length = queue.length;
-    let mut good = length <= 16;
-    let mut i: usize = 0;
-    while i < 16 {
-        good = good & ((i < length) | (queue.bytes[i] == 0));
-        i += 1;
+    // At most 16 bytes wait, and zeros stand behind them.
+    pub fn is_tidy(&self) -> bool
+        ensures { result ≡ tidy self.now }
+    {
+        is_tidy_array(&self.bytes, self.length)
     }
-    good
-}
 
-// A sequence fits where so many bytes wait.
-pub fn fits(count: usize, sequence: Sequence) -> bool
-    requires { count ≤ 16 }
-    ensures { result ≡ room_for count sequence.length }
-{
-    count + sequence.length <= 16
-}
-
-// The last of the bytes that wait is replaced by the mark. Of these bytes the first `at` wait, and one at least.
-pub fn mark_last(bytes: &mut [u8; 16], at: usize, mark: u8)
-    requires { record { tidied : tidy (queue_with bytes.old at) ≡ true; places : length bytes.old ≡ 16; some : 1 ≤ at } }
-    ensures { queue_with bytes.new at ≡ queue_of (last_replaced mark (waiting (queue_with bytes.old at))) }
-{
-    bytes[at - 1] = mark;
-}
-
-// The queue with a sequence behind its bytes, or with its last byte replaced by the mark.
-pub fn pushed(queue: Queue, sequence: Sequence, mark: u8) -> Queue
-    requires { tidy queue ≡ true }
-    ensures { result ≡ queue_of (pushed_to mark (waiting queue) (contents sequence)) }
-{
-    let at = queue.length;
-    let n = sequence.length;
-    let mut after = queue;
-    if 16 - at < n {
-        mark_last(&mut after.bytes, at, mark);
-        return after;
+    // So many bytes more fit: as the length counts those that wait, and so as they are.
+    pub fn fits(&self, more: usize) -> bool
+        requires { self.now.length ≤ 16 }
+        ensures counted { result ≡ room_for self.now.length more }
+        ensures waits { result ≡ has_room (waiting self.now) more }
+    {
+        more <= 16 - self.length
     }
-    let mut i: usize = 0;
-    while i < n {
-        after.bytes[at + i] = sequence.bytes[i];
-        i += 1;
-    }
-    after.length = at + n;
-    after
-}
 
-// The same in place: of these bytes the first `at` wait, and then as many as the answer says.
-pub fn push(bytes: &mut [u8; 16], at: usize, sequence: Sequence, mark: u8) -> usize
-    requires { tidy (queue_with bytes.old at) ≡ true }
-    ensures { queue_with bytes.new result ≡ queue_of (pushed_to mark (waiting (queue_with bytes.old at)) (contents sequence)) }
-{
-    let queue = Queue {
-        bytes: *bytes,
-        length: at,
-    };
-    let after = pushed(queue, sequence, mark);
-    let places = after.bytes;
-    *bytes = places;
-    after.length
-}
-
-// The queue without its oldest byte. Zeros stand behind the bytes as it is, and the test in the loop changes nothing: with it the
-// compiler leaves the loop as it stands, and most lines of the bench are quicker, an idle one by a tenth (docs/SPEED.md).
-pub fn popped(queue: Queue) -> Queue
-    requires { tidy queue ≡ true }
-    ensures { result ≡ queue_of (drop 1 (waiting queue)) }
-{
-    let n = queue.length;
-    if n == 0 {
-        return queue;
+    // The last of the bytes that wait, one at least, is replaced by the mark.
+    pub fn mark_last(&mut self, mark: u8)
+        requires { record { tidied : tidy self.old ≡ true; some : 1 ≤ self.old.length } }
+        ensures { self.new ≡ queue_of (last_replaced mark (waiting self.old)) }
+    {
+        self.bytes[self.length - 1] = mark;
     }
-    let mut after = queue;
-    let mut i: usize = 0;
-    while i < 15 {
-        after.bytes[i] = if i + 1 < n { queue.bytes[i + 1] } else { 0 };
-        i += 1;
-    }
-    after.bytes[15] = 0;
-    after.length = n - 1;
-    after
-}
 
-// The queue that holds a sequence alone.
-pub fn alone(sequence: Sequence) -> Queue
-    ensures { result ≡ queue_of (contents sequence) }
-{
-    let _ = &sequence.length; // at most 8
-    pushed(empty(), sequence, 0)
+    // A sequence goes behind the bytes that wait, or the last of them is replaced by the mark.
+    pub fn push(&mut self, sequence: Sequence, mark: u8)
+        requires { tidy self.old ≡ true }
+        ensures { self.new ≡ queue_of (pushed_to mark (waiting self.old) (contents sequence)) }
+    {
+        if !self.fits(sequence.length) {
+            self.mark_last(mark);
+            return;
+        }
+        let end = self.length + sequence.length;
+        self.bytes[self.length..end].copy_from_slice(&sequence.bytes[..sequence.length]);
+        self.length = end;
+    }
+
+    // The oldest byte is taken off, and those behind it move up.
+    pub fn pop(&mut self) -> Option<u8>
+        requires { tidy self.old ≡ true }
+        ensures oldest { result ≡ slice_get (waiting self.old) 0 }
+        ensures others { self.new ≡ queue_of (drop 1 (waiting self.old)) }
+    {
+        if self.length == 0 {
+            return None;
+        }
+        let oldest = self.bytes[0];
+        self.bytes = moved_up(&self.bytes);
+        self.length -= 1;
+        Some(oldest)
+    }
 }

@@ -20,7 +20,7 @@ fn is_good_outgoing(outgoing: Outgoing) -> bool
     ensures { result ≡ good_outgoing outgoing }
 {
     let queue = outgoing.queue;
-    queue::is_tidy(queue) & (outgoing.repeating <= keys::LAST_KEY) & (outgoing.countdown <= 240)
+    queue.is_tidy() & (outgoing.repeating <= keys::LAST_KEY) & (outgoing.countdown <= 240)
 }
 
 // A command that takes a value.
@@ -42,7 +42,7 @@ pub fn is_good_rest(rest: Rest) -> bool
     let replies = rest.replies;
     is_good_outgoing(outgoing)
         & is_good_mode(mode)
-        & replies::is_tidy(replies)
+        & replies.is_tidy()
         & ((rest.waiting == 0) | takes_value(rest.waiting))
 }
 

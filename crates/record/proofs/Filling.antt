@@ -1,9 +1,8 @@
 -- A map of zeros filled with the keys of the plain panel, one after the other. Assumes nothing.
-use Prim.Native.Nat.{ℕ, zero, suc, ◌+◌, ◌≤◌}
+use Prim.Native.Nat.{ℕ, zero, suc, ◌+◌}
 use mathlib.Core.Path.{◌≡◌, refl}
 use mathlib.Core.List.{List, [], ◌∷◌}
 use lib.ListN.{set, replicate}
-use native.Mathlib.Nat.{le_antisymm}
 use native.Mathlib.Numerals.{add-one}
 use Rattle.replies.specs.declared.Replies.{Replies}
 use Rattle.replies.specs.Replies.{replies_of}
@@ -33,10 +32,8 @@ unfolding filled_to plain_map count_up
 filled_plain = refl
 
 -- So a record that begins with no key, with what power-on has beside the map, is that of power-on in the end.
-pub filled_power_on : (e : Dock) (position : ℕ) (types : List ℕ) (rest : Rest) (replies : Replies) → (position ≤ 104)
-    × (e ≡ dock_with (filled_to position (replicate 144 0)) (replicate 18 0) (replicate 144 0) (replicate 144 0) types rest) → 104 ≤ position
+pub filled_power_on : (e : Dock) (position : ℕ) (types : List ℕ) (rest : Rest) (replies : Replies)
+    → e ≡ dock_with (filled_to position (replicate 144 0)) (replicate 18 0) (replicate 144 0) (replicate 144 0) types rest → position ≡ 104
     → types ≡ default_types → rest ≡ fresh_rest replies → replies ≡ replies_of (0xaa ∷ []) → e ≡ power_on
 unfolding power_on fresh_with
-filled_power_on e position types rest replies i end t r w =
-    let all : position ≡ 104 = le_antisymm i.0 end in
-    rw (i.1, all, filled_plain, t, r, w)
+filled_power_on e position types rest replies i all t r w = rw (i, all, filled_plain, t, r, w)

@@ -1,5 +1,6 @@
 // The flags of the held keys, by key number. Nothing else reads or sets one.
 ghost use Rattle.std.specs.Prelude.{◌≡◌, ◌<◌};
+ghost use Rattle.basics.specs.Choice.{pick};
 ghost use Rattle.record.specs.Held.{held_at, key_down, key_up};
 
 use crate::Held;
@@ -12,18 +13,10 @@ pub fn is_held(held: &Held, key: u8) -> bool
     held[key as usize] != 0
 }
 
-// A key goes down: it is held from now on.
-pub fn key_down(held: &mut Held, key: u8)
+// From now on a key is held, or it is not.
+pub fn set_held(held: &mut Held, key: u8, holds: bool)
     requires { key < 144 }
-    ensures { held.new ≡ key_down held.old key }
+    ensures { held.new ≡ pick holds (key_down held.old key) (key_up held.old key) }
 {
-    held[key as usize] = 1;
-}
-
-// A key comes up: it is held no more.
-pub fn key_up(held: &mut Held, key: u8)
-    requires { key < 144 }
-    ensures { held.new ≡ key_up held.old key }
-{
-    held[key as usize] = 0;
+    held[key as usize] = u8::from(holds);
 }

@@ -3,6 +3,7 @@ ghost use Rattle.std.specs.Prelude.{◌≡◌};
 ghost use Rattle.record.specs.Power.{default_types, fresh_rest, power_on};
 
 use crate::{Dock, Mode, Outgoing, Rest, Types};
+use queue::Queue;
 use replies::Replies;
 
 // The default rate: 120 scans, then every 22 (docs/RULES.md, section 6).
@@ -34,7 +35,7 @@ pub fn fresh_rest(replies: Replies) -> Rest
 {
     Rest {
         outgoing: Outgoing {
-            queue: queue::empty(),
+            queue: Queue::empty(),
             repeating: 0,
             countdown: 0,
         },
@@ -57,7 +58,7 @@ pub fn power_on() -> Dock
     ensures { result ≡ power_on }
 {
     let types = default_types();
-    let rest = fresh_rest(replies::one(hostbytes::AWAKE));
+    let rest = fresh_rest(Replies::of([hostbytes::AWAKE]));
     let mut dock = Dock {
         map: [0; 144],
         closed: [0; 18],
@@ -66,10 +67,8 @@ pub fn power_on() -> Dock
         types,
         rest,
     };
-    let mut position: usize = 0;
-    while position < PLAIN_KEYS {
+    for position in 0..PLAIN_KEYS {
         dock.map[position] = (position + 1) as u8;
-        position += 1;
     }
     dock
 }

@@ -1,8 +1,10 @@
 // The replies that wait (docs/RULES.md, section 11): three at most, because nothing is answered with more.
 #![tactic(auto)]
 
-ghost use Rattle.std.specs.Prelude.{◌≡◌, true, [], ◌∷◌, ◌≤◌, drop};
+ghost use Rattle.std.specs.Prelude.{◌≡◌, true, ◌≤◌, drop, slice_get};
 ghost use Rattle.replies.specs.Replies.{waiting_replies, replies_of, tidy_replies};
+
+use queue::arrays::{is_tidy_array, moved_up};
 
 // The first `length` of `bytes` wait, the oldest in front, and zeros stand behind them.
 #[derive(Clone, Copy)]
@@ -11,51 +13,39 @@ pub struct Replies {
     pub length: u8,
 }
 
-// One reply, two and three.
-pub fn one(byte: u8) -> Replies
-    ensures { result ≡ replies_of (byte ∷ []) }
-{
-    Replies {
-        bytes: [byte, 0, 0],
-        length: 1,
+impl Replies {
+    // These bytes wait, the oldest in front.
+    pub fn of<const COUNT: usize>(bytes: [u8; COUNT]) -> Self
+        requires { COUNT ≤ 3 }
+        ensures { result ≡ replies_of bytes.entry }
+    {
+        let mut places = [0; 3];
+        places[..COUNT].copy_from_slice(&bytes);
+        Replies {
+            bytes: places,
+            length: COUNT as u8,
+        }
     }
-}
 
-pub fn two(first: u8, second: u8) -> Replies
-    ensures { result ≡ replies_of (first ∷ second ∷ []) }
-{
-    Replies {
-        bytes: [first, second, 0],
-        length: 2,
+    // At most three wait, and zeros stand behind them.
+    pub fn is_tidy(&self) -> bool
+        ensures { result ≡ tidy_replies self.now }
+    {
+        is_tidy_array(&self.bytes, self.length as usize)
     }
-}
 
-pub fn three(first: u8, second: u8, third: u8) -> Replies
-    ensures { result ≡ replies_of (first ∷ second ∷ third ∷ []) }
-{
-    Replies {
-        bytes: [first, second, third],
-        length: 3,
-    }
-}
-
-// At most three wait, and zeros stand behind them.
-pub fn is_tidy(replies: Replies) -> bool
-    ensures { result ≡ tidy_replies replies }
-{
-    (replies.length <= 3)
-        & ((1 <= replies.length) | (replies.bytes[0] == 0))
-        & ((2 <= replies.length) | (replies.bytes[1] == 0))
-        & ((3 <= replies.length) | (replies.bytes[2] == 0))
-}
-
-// The replies without the oldest.
-pub fn popped(replies: Replies) -> Replies
-    requires { record { tidied : tidy_replies replies ≡ true; some : 1 ≤ replies.length } }
-    ensures { result ≡ replies_of (drop 1 (waiting_replies replies)) }
-{
-    Replies {
-        bytes: [replies.bytes[1], replies.bytes[2], 0],
-        length: replies.length - 1,
+    // The oldest is taken off, and those behind it move up.
+    pub fn pop(&mut self) -> Option<u8>
+        requires { tidy_replies self.old ≡ true }
+        ensures oldest { result ≡ slice_get (waiting_replies self.old) 0 }
+        ensures others { self.new ≡ replies_of (drop 1 (waiting_replies self.old)) }
+    {
+        if self.length == 0 {
+            return None;
+        }
+        let oldest = self.bytes[0];
+        self.bytes = moved_up(&self.bytes);
+        self.length -= 1;
+        Some(oldest)
     }
 }

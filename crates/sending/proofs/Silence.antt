@@ -2,9 +2,9 @@
 use mathlib.Core.Path.{◌≡◌, refl, sym, ap, ◌∙◌}
 use mathlib.Core.Bool.{Bool, true, false, not}
 use mathlib.Core.List.{List, [], ◌++◌}
-use Prim.Native.Nat.{ℕ, ◌+◌, ◌-◌, ◌≤◌, ◌<◌}
+use Prim.Native.Nat.{ℕ, ◌+◌, ◌≤◌, ◌<◌}
 use native.Mathlib.Omega.{arith}
-use borrow.Author.Tests.{lt-leb, lt-ltb, le-ltb, eq-eqb, ne_eqb, eqb-false}
+use borrow.Author.Tests.{leb-false, lt-leb, lt-ltb, le-ltb, eq-eqb, ne_eqb, eqb-false}
 use lib.Dec.{eqb}
 use lib.ListN.{length, length-append}
 use Rattle.basics.specs.Choice.{pick, both, either}
@@ -15,7 +15,7 @@ use Rattle.codes.specs.Codes.{prefix, make_of, break_of, before, after, code_of,
 use Rattle.keys.specs.Keys.{code_in, mark_of, make_break, typematic_make_break}
 use Rattle.keys.specs.Named.{first_media}
 use Rattle.queue.specs.declared.Queue.{Queue}
-use Rattle.queue.specs.Queues.{queue_with, waiting, queue_of, last_replaced, tidy, contents, pushed_to}
+use Rattle.queue.specs.Queues.{waiting, queue_of, last_replaced, tidy, contents, has_room, pushed_to}
 use Rattle.queue.proofs.Meaning.{length_waiting, tidy_short, tidy_is}
 use Rattle.queue.proofs.Room.{pushed_none, pushed_nothing}
 use Rattle.record.specs.declared.Mode.{Mode}
@@ -78,20 +78,12 @@ module _ (set key type modifiers : ℕ) (lock silent : Bool)
       go false false s n = never true refl n
       go false true false n = never true refl n
 
--- Where the shortest release has no room, some byte waits, and no longer one has room either.
-pub little_room : (set at n : ℕ) → n ≡ shortest_release set → 16 - at < n → 1 ≤ at
-little_room set at n e h = go (eqb set 1) e
-  where
-    go : (b : Bool) → n ≡ pick {A = ℕ} b 1 2 → 1 ≤ at
-    go true f = omega arith
-    go false f = omega arith
+-- The shortest release is short, and where it has no room no longer one has.
+pub shortest_small : (set n : ℕ) → n ≡ shortest_release set → n ≤ 16
+shortest_small set n e = rw e (picked (λ (k : ℕ). k ≤ 16) (eqb set 1) 1 2 (omega arith) (omega arith))
 
-pub too_long : (set at n count : ℕ) → n ≡ shortest_release set → shortest_release set ≤ count → 16 - at < n → 16 < at + count
-too_long set at n count e h l = omega arith
-
--- In a full queue nothing has room.
-pub past_full : (at count : ℕ) → at ≡ 16 → 1 ≤ count → 16 < at + count
-past_full at count e h = omega arith
+pub no_longer : (bytes : List ℕ) (n more : ℕ) → has_room bytes n ≡ false → n ≤ more → has_room bytes more ≡ false
+no_longer bytes n more f h = lt-leb (length bytes + more) 16 (omega (arith, leb-false (length bytes + n) 16 f))
 
 -- Which releases are silent: in set 3 those without a code, and of the others the type says; else it is that of PAUSE.
 pub silent_by_code : (set key type : ℕ) → set ≡ 3 → first_media ≤ key
@@ -124,27 +116,22 @@ silent_by_key set key type low high n = rw (ne_eqb set 3 n) (go (is_pause key) (
         rw (eq-eqb set 2 other)
 
 -- What waits then, as the code finds it.
-module _ (b : List ℕ) (at : ℕ) (m : Mode) (bytes : List ℕ) (t : tidy (queue_with b at) ≡ true) (places : length b ≡ 16) where
+module _ (q : Queue) (m : Mode) (bytes : List ℕ) where
   -- Nothing is sent.
-  pub nothing_queued : bytes ≡ [] → queue_with b at ≡ queued_of (queue_with b at) m bytes
+  pub nothing_queued : tidy q ≡ true → length q.bytes ≡ 16 → bytes ≡ [] → q ≡ queued_of q m bytes
   unfolding queued_of
-  nothing_queued e =
-      let q = queue_with b at in
+  nothing_queued t places e =
       let short : length (waiting q) ≤ 16 = omega (arith, length_waiting q t places, tidy_short q t) in
       tidy_is q places t ∙ ap queue_of (sym (pushed_none (mark_of m.set) (waiting q) short) ∙ ap (pushed_to (mark_of m.set) (waiting q)) (sym e))
 
   module _ (mark : ℕ) (mark-is : mark ≡ mark_of m.set) (after : Queue) where
     -- There is no room, and the mark takes the place of the last byte.
-    pub no_room_marks : after ≡ queue_of (last_replaced mark (waiting (queue_with b at))) → 16 < at + length bytes → after ≡ queued_of (queue_with b at) m bytes
+    pub no_room_marks : after ≡ queue_of (last_replaced mark (waiting q)) → has_room (waiting q) (length bytes) ≡ false → after ≡ queued_of q m bytes
     unfolding queued_of
     no_room_marks e full =
-        let q = queue_with b at in
-        let count : length (waiting q) ≡ at = length_waiting q t places in
-        let none = pushed_nothing (mark_of m.set) (waiting q) bytes (lt-leb (length (waiting q) + length bytes) 16 (omega (arith, count))) in
-        e ∙ ap (λ (x : ℕ). queue_of (last_replaced x (waiting q))) mark-is ∙ ap queue_of (sym none)
+        e ∙ ap (λ (x : ℕ). queue_of (last_replaced x (waiting q))) mark-is ∙ ap queue_of (sym (pushed_nothing (mark_of m.set) (waiting q) bytes full))
 
     -- The bytes are pushed.
-    pub pushed_queues : (s : Sequence) → contents s ≡ bytes
-        → after ≡ queue_of (pushed_to mark (waiting (queue_with b at)) (contents s)) → after ≡ queued_of (queue_with b at) m bytes
+    pub pushed_queues : (s : Sequence) → contents s ≡ bytes → after ≡ queue_of (pushed_to mark (waiting q) (contents s)) → after ≡ queued_of q m bytes
     unfolding queued_of
     pushed_queues s c e = rw (← c, ← mark-is) e

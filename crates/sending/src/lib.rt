@@ -1,12 +1,12 @@
 // What a key sends as things stand, and how it is queued (docs/RULES.md, sections 3 and 7).
 #![tactic(auto)]
 
-ghost use Rattle.std.specs.Prelude.{◌≡◌, true, not, ◌+◌, ◌*◌, ◌≤◌, ◌<◌, length, get_or};
+ghost use Rattle.std.specs.Prelude.{◌≡◌, true, not, ◌+◌, ◌*◌, ◌≤◌, ◌<◌, get_or};
 ghost use Rattle.basics.specs.Choice.{both, either};
 ghost use Rattle.codes.specs.declared.Action.TheVariants.{Press, Release};
 ghost use Rattle.codes.specs.Codes.{has_code, pauses_at_once, sends_release};
 ghost use Rattle.codes.specs.Sequences.{holding};
-ghost use Rattle.queue.specs.Queues.{queue_with, tidy};
+ghost use Rattle.queue.specs.Queues.{tidy};
 ghost use Rattle.range.specs.Range.{good_mode};
 ghost use Rattle.record.specs.Held.{flag_of, modifiers_of};
 ghost use Rattle.sending.specs.Sending.{num_lock, sends_with, queued_of, shortest_release};
@@ -14,6 +14,7 @@ ghost use Rattle.sending.specs.Sending.{num_lock, sends_with, queued_of, shortes
 use codes::rows::has_code;
 use codes::{Action, Sequence};
 use keys::{Table, mark_of};
+use queue::Queue;
 use record::held::is_held;
 use record::{Held, Mode};
 
@@ -113,60 +114,38 @@ fn shortest_release(set: u8) -> usize
     if set == 1 { 1 } else { 2 }
 }
 
-// What a press sends goes behind the first `at` of the bytes, and so many wait then. A full queue takes nothing: there the mark is put
-// without asking what is sent, unless it is nothing, since the key has no code.
-pub fn send_press(
-    held: &Held,
-    bytes: &mut [u8; 16],
-    at: usize,
-    table: &Table,
-    mode: Mode,
-    kind: u8,
-    key: u8,
-) -> usize
-    requires { record {
-      tidied : tidy (queue_with bytes.old at) ≡ true;
-      places : length bytes.old ≡ 16;
-    } }
-    ensures { queue_with bytes.new result
-        ≡ queued_of (queue_with bytes.old at) mode (sends_with held.now mode kind key Press) }
+// What a press sends is queued. A full queue takes nothing: there the mark is put without asking what is sent, unless it is nothing, since
+// the key has no code. The flags, the queue and the mode are lent one by one, and not the dock: tried, and neither the clause nor the
+// proof is shorter.
+pub fn send_press(held: &Held, queue: &mut Queue, table: &Table, mode: Mode, kind: u8, key: u8)
+    requires { tidy queue.old ≡ true }
+    ensures { queue.new ≡ queued_of queue.old mode (sends_with held.now mode kind key Press) }
 {
-    if at == 16 {
+    if !queue.fits(1) {
         if !has_code(mode.set, key) {
-            return at;
+            let _bytes = queue.bytes; // read, so that the proof knows how many places there are
+            return;
         }
-        queue::mark_last(bytes, at, mark_of(mode.set as u32));
-        return at;
+        queue.mark_last(mark_of(mode.set as u32));
+        return;
     }
     let sequence = bytes_in(held, table, mode, kind, key, Action::Press);
-    queue::push(bytes, at, sequence, mark_of(mode.set as u32))
+    queue.push(sequence, mark_of(mode.set as u32));
 }
 
 // What a release sends, likewise: nothing changes if it is silent, and where the shortest has no room the mark is put.
-pub fn send_release(
-    held: &Held,
-    bytes: &mut [u8; 16],
-    at: usize,
-    table: &Table,
-    mode: Mode,
-    kind: u8,
-    key: u8,
-) -> usize
-    requires { record {
-      tidied : tidy (queue_with bytes.old at) ≡ true;
-      places : length bytes.old ≡ 16;
-      mode : good_mode mode ≡ true;
-    } }
-    ensures { queue_with bytes.new result
-        ≡ queued_of (queue_with bytes.old at) mode (sends_with held.now mode kind key Release) }
+pub fn send_release(held: &Held, queue: &mut Queue, table: &Table, mode: Mode, kind: u8, key: u8)
+    requires { record { tidied : tidy queue.old ≡ true; mode : good_mode mode ≡ true } }
+    ensures { queue.new ≡ queued_of queue.old mode (sends_with held.now mode kind key Release) }
 {
     if is_silent(mode.set, key, kind) {
-        return at;
+        let _bytes = queue.bytes; // as above
+        return;
     }
-    if 16 - at < shortest_release(mode.set) {
-        queue::mark_last(bytes, at, mark_of(mode.set as u32));
-        return at;
+    if !queue.fits(shortest_release(mode.set)) {
+        queue.mark_last(mark_of(mode.set as u32));
+        return;
     }
     let sequence = bytes_in(held, table, mode, kind, key, Action::Release);
-    queue::push(bytes, at, sequence, mark_of(mode.set as u32))
+    queue.push(sequence, mark_of(mode.set as u32));
 }

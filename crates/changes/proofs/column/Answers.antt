@@ -1,69 +1,48 @@
-use mathlib.Core.Path.{ap, ◌∙◌}
+use Prim.Native.Nat.{◌<◌}
 use native.Mathlib.Omega.{arith}
 use lib.Bits.{xor_lt}
-use lib.Count.{trailing_le}
-use lib.ListN.{length}
-use Rattle.basics.proofs.Limits.{up_to_at}
-use Rattle.keys.specs.Keys.{last_key}
-use Rattle.record.specs.Views.{Keys}
-use Rattle.range.specs.Range.{good_keys}
-use Rattle.keying.specs.Changes.{keys_from}
-use Rattle.keying.proofs.Good.{moved_good}
-use Rattle.keying.proofs.Places.{moved_bytes}
-use Rattle.changes.proofs.TurnedRows.{lowest_small, fewer, rows_are, row_moved, rows_done}
+use Rattle.changes.proofs.TurnedRows.{lowest_small, fewer}
+use Rattle.changes.proofs.Turning.{still_ready, entry_small, rows_begin, row_turns, rows_end}
 use Rattle.changes.proofs.column.Goals as goal
-
-pub overflow_cast-turned : goal.overflow_cast-turned
-overflow_cast-turned c =
-    let a = c.args in
-    omega (arith, xor_lt 8 a.was a.is (omega arith) (omega arith))
 
 pub loop-turned-init : goal.loop-turned-init
 loop-turned-init c =
-    let a = c.args in
-    let all = rows_are a.mode a.types.now a.map.now a.c a.is a.was (keys_from a.held.now a.bytes.now a.rest) in
-    (xor_lt 8 a.was a.is (omega arith) (omega arith), c.requires.keys, c.requires.places, all)
+    record { byte = xor_lt 8 c.args.was _ (omega arith) (omega arith); going = rows_begin c.args.dock.now c.requires.ready c.requires.entries c.args.c c.args.was _ }
 
-pub overflow_cast-r : goal.overflow_cast-r
-overflow_cast-r c = omega (arith, trailing_le 32 c.loop-turned.turned)
-
-pub overflow_add-c : goal.overflow_add-c
-overflow_add-c c = omega (arith, trailing_le 32 c.loop-turned.turned)
-
-pub bounds-map-c : goal.bounds-map-c
-bounds-map-c c =
+pub bounds-dock-c-in-loop-turned : goal.bounds-dock-c-in-loop-turned
+bounds-dock-c-in-loop-turned c =
     let l = c.loop-turned in
-    omega (arith, lowest_small l.turned (omega arith) l.invariant.0)
-
-pub overflow_cast-r-in-loop-turned : goal.overflow_cast-r-in-loop-turned
-overflow_cast-r-in-loop-turned c = omega (arith, trailing_le 32 c.loop-turned.turned)
+    omega (arith, lowest_small l.turned (omega arith) l.invariant.byte)
 
 pub overflow_shr-is : goal.overflow_shr-is
 overflow_shr-is c =
     let l = c.loop-turned in
-    lowest_small l.turned (omega arith) l.invariant.0
+    lowest_small l.turned (omega arith) l.invariant.byte
 
-pub contact_turned-after-requires : goal.contact_turned-after-requires
-contact_turned-after-requires c =
-    let p = c.requires in
-    record { keys = c.loop-turned.invariant.1; mode = p.mode; places = c.loop-turned.invariant.2; number = up_to_at last_key _ _ p.entries }
+pub contact_turned-requires : goal.contact_turned-requires
+contact_turned-requires c =
+    let d = c.args.dock.now in
+    let l = c.loop-turned in
+    let only = l.invariant.going.only in
+    record {
+      ready = still_ready d c.requires.ready c.requires.entries l.dock only l.invariant.going.good;
+      number = entry_small d c.requires.ready c.requires.entries l.dock only _;
+    }
 
 pub loop-turned-smaller : goal.loop-turned-smaller
 loop-turned-smaller c = fewer c.loop-turned.turned (omega arith)
 
 pub loop-turned-preserved : goal.loop-turned-preserved
 loop-turned-preserved c =
-    let a = c.args in
     let p = c.requires in
-    let t = c.loop-turned.turned in
-    let i = c.loop-turned.invariant in
-    let e = keys_from c.loop-turned.held c.loop-turned.bytes c.loop-turned.after in
-    let after = c.contact_turned-after.ensures in
-    let good = ap good_keys after ∙ moved_good a.mode p.mode a.types.now _ _ (up_to_at last_key _ _ p.entries) e i.1 in
-    let places = ap (λ (k : Keys). length k.queue.bytes) after ∙ moved_bytes a.mode a.types.now _ _ (up_to_at last_key _ _ p.entries) e i.2 in
-    (omega (arith, fewer t (omega arith)), good, places, row_moved _ _ _ _ _ _ e t i.3 (omega arith) i.0 _ after)
+    let l = c.loop-turned in
+    let some : 0 < l.turned = omega arith in
+    record {
+      byte = omega (arith, fewer l.turned some);
+      going = row_turns c.args.dock.now p.ready p.entries c.args.c c.args.was _ l.turned l.dock l.invariant.going some l.invariant.byte _ c.contact_turned.ensures;
+    }
 
 pub returns : goal.returns
 returns c =
     let l = c.loop-turned in
-    rows_done _ _ _ _ _ _ (keys_from l.held l.bytes l.after) l.turned l.invariant.3 (omega arith)
+    rows_end c.args.dock.now c.requires.ready c.requires.entries c.args.c c.args.was _ l.turned l.dock l.invariant.going (omega arith)
