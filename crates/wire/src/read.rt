@@ -26,14 +26,14 @@ pub fn read_in_place(dock: &mut Dock) -> Option<Given>
 {
     if dock.rest.replies.length != 0 {
         let byte = dock.rest.replies.bytes[0];
-        dock.rest.replies = replies::popped(dock.rest.replies);
+        let _oldest = dock.rest.replies.pop();
         remember(dock, byte);
         close_in_place(dock);
         return Some(Given::Reply(byte));
     }
     if dock.rest.outgoing.queue.length != 0 {
         let byte = dock.rest.outgoing.queue.bytes[0];
-        dock.rest.outgoing.queue = queue::popped(dock.rest.outgoing.queue);
+        let _oldest = dock.rest.outgoing.queue.pop();
         remember(dock, byte);
         close_in_place(dock);
         return Some(Given::KeyByte(byte));
