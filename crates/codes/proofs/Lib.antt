@@ -3,3 +3,4 @@ pub mod AtOnce
 pub mod Coded
 pub mod Lengths
 pub mod OneForm
+pub mod Rules

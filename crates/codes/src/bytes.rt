@@ -62,7 +62,7 @@ impl Sequence {
     }
 
     // What a code sends when its key goes down.
-    #[tactic(auto, using(crate::proofs::Adding::adding_append, crate::proofs::Adding::adding_length, crate::proofs::Lengths::prefix_short), unfolding(crate::specs::Codes::make_of))]
+    #[tactic(auto, using(crate::proofs::Rules::joins), unfolding(crate::specs::Codes::make_of))]
     pub fn with_make(self, code: u16) -> Self
         requires { self.length ≤ 6 }
         ensures { result ≡ adding self (make_of code) }
@@ -71,7 +71,7 @@ impl Sequence {
     }
 
     // What a code sends when its key comes up.
-    #[tactic(auto, using(crate::proofs::Adding::adding_append, crate::proofs::Adding::adding_length, crate::proofs::Lengths::prefix_short), unfolding(crate::specs::Codes::break_of))]
+    #[tactic(auto, using(crate::proofs::Rules::joins), unfolding(crate::specs::Codes::break_of))]
     pub fn with_break(self, set: u8, code: u16) -> Self
         requires { self.length ≤ 5 }
         ensures { result ≡ adding self (break_of set code) }

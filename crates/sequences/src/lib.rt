@@ -47,7 +47,7 @@ fn pauses_at_once(set: u8, key: u8) -> bool
 }
 
 // The bytes that an action of a key sends, by a table that the caller laid out.
-#[tactic(auto, using(codes::proofs::AtOnce::at_once_range, codes::proofs::Adding::adding_append, codes::proofs::Adding::adding_length, codes::proofs::Adding::adding_holding, codes::proofs::Adding::none_held, codes::proofs::Lengths::make_short, codes::proofs::Lengths::before_short, codes::proofs::Lengths::break_short, codes::proofs::Lengths::release_short, codes::proofs::Lengths::make_behind_short), unfolding(codes::specs::Codes::encode, codes::specs::Codes::bytes_of))]
+#[tactic(auto, using(codes::proofs::Rules::joins, codes::proofs::AtOnce::at_once_range), unfolding(codes::specs::Codes::encode, codes::specs::Codes::bytes_of))]
 pub fn sequence_in(
     table: &Table,
     set: u8,

@@ -17,7 +17,7 @@ fn wraps(set: u8) -> (u16, u16)
 }
 
 // What a form sends before a make.
-#[tactic(auto, using(codes::proofs::Adding::adding_append, codes::proofs::Adding::adding_length, codes::proofs::Lengths::break_short), unfolding(codes::specs::Codes::before, codes::specs::Sequences::adding))]
+#[tactic(auto, using(codes::proofs::Rules::joins), unfolding(codes::specs::Codes::before, codes::specs::Sequences::adding))]
 pub(crate) fn with_before(sequence: Sequence, set: u8, form: Form) -> Sequence
     requires { sequence.length ≤ 2 }
     ensures { result ≡ adding sequence (before set form) }
@@ -33,7 +33,7 @@ pub(crate) fn with_before(sequence: Sequence, set: u8, form: Form) -> Sequence
 }
 
 // What a form sends after a break: the same undone, last first.
-#[tactic(auto, using(codes::proofs::Adding::adding_append, codes::proofs::Adding::adding_length, codes::proofs::Lengths::make_short), unfolding(codes::specs::Codes::after, codes::specs::Sequences::adding))]
+#[tactic(auto, using(codes::proofs::Rules::joins), unfolding(codes::specs::Codes::after, codes::specs::Sequences::adding))]
 pub(crate) fn with_after(sequence: Sequence, set: u8, form: Form) -> Sequence
     requires { sequence.length ≤ 4 }
     ensures { result ≡ adding sequence (after set form) }
