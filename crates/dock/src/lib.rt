@@ -7,15 +7,15 @@ ghost use Rattle.dock.specs.Answers.{refusal_number};
 
 pub mod closing; // closing.rt: how every accepted call ends
 
-// Why a call is refused.
+// Why a call is refused: each refusal has its number in the table of section 9.
 #[derive(Clone, Copy, PartialEq, Eq)]
 pub enum Refusal {
-    ScanLength, // a scan that is not 18 bytes
-    MapLength, // a map that is not 144 bytes
-    MapEntry, // a map entry over 125
-    MapDouble, // a key twice in the map
-    FrameNumber, // a frame number over 2047
-    BadRecord, // a part of the record is out of its range
+    ScanLength = 1, // a scan that is not 18 bytes
+    MapLength = 2, // a map that is not 144 bytes
+    MapEntry = 3, // a map entry over 125
+    MapDouble = 4, // a key twice in the map
+    FrameNumber = 5, // a frame number over 2047
+    BadRecord = 9, // a part of the record is out of its range
 }
 
 impl Refusal {
@@ -23,14 +23,7 @@ impl Refusal {
     pub fn number(self) -> u8
         ensures { result ≡ refusal_number self }
     {
-        match self {
-            Refusal::ScanLength => 1,
-            Refusal::MapLength => 2,
-            Refusal::MapEntry => 3,
-            Refusal::MapDouble => 4,
-            Refusal::FrameNumber => 5,
-            Refusal::BadRecord => 9,
-        }
+        self as u8
     }
 }
 
