@@ -14,30 +14,7 @@ use Rattle.digits.specs.Digits.{all_digits, Digits}
 use Rattle.text.specs.Lines.{kind_of}
 
 module _ (line : List ℕ) where
-  pub kind_empty : length line ≡ 0 → kind_of line ≡ Read
-  unfolding kind_of
-  kind_empty l = rw l
-
-  -- 3, 36 or 288 digits are a frame, a scan or a map;
-  module _ (digits : Bool) (e : digits ≡ all_digits line) where
-    pub kind_3 : digits ≡ true → length line ≡ 3 → kind_of line ≡ Frame
-    unfolding kind_of
-    kind_3 d l = rw (l, ← e, d)
-
-    pub kind_36 : digits ≡ true → length line ≡ 36 → kind_of line ≡ Scan
-    unfolding kind_of
-    kind_36 d l = rw (l, ← e, d)
-
-    pub kind_288 : digits ≡ true → length line ≡ 288 → kind_of line ≡ Map
-    unfolding kind_of
-    kind_288 d l = rw (l, ← e, d)
-
-    -- a line with any other character is malformed,
-    pub kind_not_digits : (length line ≡ 0 → ⊥) → digits ≡ false → kind_of line ≡ Malformed
-    unfolding kind_of
-    kind_not_digits n d = rw (ne_eqb (length line) 0 n, ← e, d)
-
-  -- and so is a line of any other length, whatever its characters,
+  -- A line of another length is malformed, whatever its characters,
   pub kind_other_length : (length line ≡ 0 → ⊥) → (length line ≡ 3 → ⊥) → (length line ≡ 36 → ⊥) → (length line ≡ 288 → ⊥)
       → kind_of line ≡ Malformed
   unfolding kind_of

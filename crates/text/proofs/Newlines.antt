@@ -1,17 +1,21 @@
 -- Where a line ends: the search for the first newline, the test that none stands among some characters, and the test of a length.
 -- Assumes nothing.
 use mathlib.Core.Path.{◌≡◌, refl, sym, ap, ◌∙◌}
-use mathlib.Core.Bool.{Bool, true, false, not}
+use mathlib.Core.Bool.{Bool, true, false, not, ◌||◌}
 use mathlib.Core.List.{List, [], ◌∷◌}
 use Prim.Native.Nat.{ℕ, zero, suc, ◌+◌, ◌≤◌, ◌<◌}
-use native.Mathlib.Nat.{add-zero, add-suc, le_antisymm}
+use native.Mathlib.Nat.{add-zero, add-suc}
 use native.Mathlib.Numerals.{add-one}
 use native.Mathlib.Omega.{arith}
 use borrow.Author.Tests.{eq-eqb, ne_eqb, eqb-true, eqb-false, ltb-true, ltb-false, not-true}
 use lib.Dec.{eqb, ltb}
-use lib.ListN.{length, get_or, drop, length-drop, drop_of_length-le, get_or-eq_default}
+use lib.ListN.{length, get_or, drop, length-drop, get_or-eq_default}
 use lib.Seq.{drop-cons}
-use Rattle.basics.proofs.Cases.{picked, either_true, either_false, neither_first, neither_second}
+use Rattle.std.specs.Prelude.{Option, Some, None, ◌==◌, cond, nat_lt}
+use Rattle.std.specs.List.{between, position, position_or_len}
+use Rattle.std.proofs.lemmas.List.Edits.{get_or-between, length-between}
+use Rattle.basics.specs.Choice.{pick, either}
+use Rattle.basics.proofs.Cases.{picked, neither_first, neither_second}
 use Rattle.basics.proofs.Flags.{left_of_both, right_of_both}
 use Rattle.text.specs.Lines.{newline_among, ends_after, line_length, line_end}
 
@@ -32,48 +36,35 @@ unfolding line_end
 line_end_within text at h = omega (arith, line_length_within (drop at text), length-drop at text)
 
 module _ (text : List ℕ) (at : ℕ) where
-  -- At a newline the line ends;
+  -- At a newline the line ends,
   line_end_here : at < length text → get_or text at 0 ≡ 10 → line_end text at ≡ at
   unfolding line_end line_length
   line_end_here h e = rw (drop-cons text at 0, eq-eqb (get_or text at 0) 10 e, add-zero)
 
-  -- at another character it ends where it does from the next place on;
+  -- and at another character where it does from the next place on.
   line_end_past : at < length text → (get_or text at 0 ≡ 10 → ⊥) → line_end text at ≡ line_end text (at + 1)
   unfolding line_end line_length
   line_end_past h n = rw (drop-cons text at 0, ne_eqb (get_or text at 0) 10 n, add-one) (omega arith)
-
-  -- and at the text's end it ends, too.
-  line_end_last : length text ≤ at → line_end text at ≡ at
-  unfolding line_end line_length
-  line_end_last h = rw (drop_of_length-le, add-zero)
-
--- The search: the line that begins at a place ends where it does from i on.
-module _ (text : List ℕ) (at i : ℕ) (k : line_end text at ≡ line_end text i) where
-  pub search_here : i < length text → get_or text i 0 ≡ 10 → i ≡ line_end text at
-  search_here h e = sym (k ∙ line_end_here text i h e)
-
-  pub search_on : i < length text → (get_or text i 0 ≡ 10 → ⊥) → line_end text at ≡ line_end text (i + 1)
-  search_on h n = k ∙ line_end_past text i h n
-
-  pub search_end : length text ≤ i → i ≡ line_end text at
-  search_end h = sym (k ∙ line_end_last text i h)
 
 pub among_none : (text : List ℕ) (at : ℕ) → false ≡ newline_among text at 0
 unfolding newline_among
 among_none text at = refl
 
--- The test: found says whether a newline stands among the first i characters.
-module _ (text : List ℕ) (at i : ℕ) (found : Bool) (k : found ≡ newline_among text at i) where
-  pub among_here : get_or text (at + i) 0 ≡ 10 → (r : Bool) → r ≡ true → r ≡ newline_among text at (i + 1)
+-- The test: found says whether a newline stands among the first i of the n characters from the place on.
+module _ (text : List ℕ) (at n i : ℕ) (found : Bool) (k : found ≡ newline_among text at i) (h : at + n ≤ length text) where
+  pub among_more : i < length (between at (at + n) text) → (found || eqb (get_or (between at (at + n) text) i 0) 10) ≡ newline_among text at (i + 1)
   unfolding newline_among
-  among_here e r f = rw (f, add-one, eq-eqb (get_or text (at + i) 0) 10 e) (sym (either_true (newline_among text at i)))
+  among_more b =
+      let here : get_or (between at (at + n) text) i 0 ≡ get_or text (at + i) 0 =
+      get_or-between text at (at + n) i 0 (omega (arith, length-between text at (at + n) h)) in
+      rw (add-one, here, ← k) (raised found (eqb (get_or text (at + i) 0) 10))
+    where
+      raised : (x y : Bool) → (x || y) ≡ either x y
+      raised true y = refl
+      raised false y = refl
 
-  pub among_not_here : (get_or text (at + i) 0 ≡ 10 → ⊥) → (r : Bool) → r ≡ found → r ≡ newline_among text at (i + 1)
-  unfolding newline_among
-  among_not_here n r f = f ∙ k ∙ rw (add-one, ne_eqb (get_or text (at + i) 0) 10 n) (sym (either_false (newline_among text at i)))
-
-  pub among_end : (n : ℕ) → i ≤ n → n ≤ i → found ≡ newline_among text at n
-  among_end n a b = k ∙ ap (newline_among text at) (le_antisymm a b)
+  pub among_end : i ≤ length (between at (at + n) text) → length (between at (at + n) text) ≤ i → found ≡ newline_among text at n
+  among_end a b = k ∙ ap (newline_among text at) (omega (arith, length-between text at (at + n) h))
 
 -- Where no newline stands among n characters, the line ends where it does from the next place on.
 among_past : (text : List ℕ) (at n : ℕ) → at + n ≤ length text → newline_among text at n ≡ false → line_end text at ≡ line_end text (at + n)
@@ -118,3 +109,35 @@ module _ (text : List ℕ) (at n : ℕ) where
           go : (t : Bool) → ltb (at + n) (length text) ≡ t → at + n < length text
           go true f = ltb-true _ _ f
           go false f = absurd (omega (arith, sym newline ∙ get_or-eq_default text 0 (ltb-false _ _ f)))
+
+-- The search: the characters before the first newline are as many as it finds, or all.
+line_length_position : (l : List ℕ) → line_length l ≡ position_or_len (λ c. c == 10) l
+unfolding line_length
+line_length_position [] = refl
+line_length_position (c ∷ cs) = go (eqb c 10) (line_length_position cs)
+  where
+    go : (t : Bool) → line_length cs ≡ position_or_len (λ x. x == 10) cs
+        → pick t 0 (suc (line_length cs)) ≡ cond (not t) (1 + position_or_len (λ x. x == 10) cs) 0
+    go true e = refl
+    go false e = omega arith
+
+module _ (text : List ℕ) (at : ℕ) (rest : List ℕ) (r : Option ℕ) (s : rest ≡ drop at text) (e : r ≡ position (λ c. c == 10) rest) where
+  chosen : r ≡ cond (nat_lt (line_length (drop at text)) (length (drop at text))) (Some (line_length (drop at text))) None
+  chosen = e ∙ rw (s, ← line_length_position (drop at text))
+
+  pub found_at : (n : ℕ) → r ≡ Some n → at + n ≡ line_end text at
+  unfolding line_end
+  found_at n f = go (nat_lt (line_length (drop at text)) (length (drop at text))) (sym chosen ∙ f)
+    where
+      go : (t : Bool) → cond t (Some (line_length (drop at text))) None ≡ Some n → at + n ≡ at + line_length (drop at text)
+      go true g = let same : line_length (drop at text) ≡ n = cc in rw same
+      go false g = cc
+
+  pub found_none : at ≤ length text → r ≡ None → length text ≡ line_end text at
+  unfolding line_end
+  found_none h f = go (nat_lt (line_length (drop at text)) (length (drop at text))) refl (sym chosen ∙ f)
+    where
+      go : (t : Bool) → nat_lt (line_length (drop at text)) (length (drop at text)) ≡ t → cond t (Some (line_length (drop at text))) None ≡ None
+          → length text ≡ at + line_length (drop at text)
+      go true u g = cc
+      go false u g = omega (arith, ltb-false _ _ u, line_length_within (drop at text), length-drop at text)

@@ -1,7 +1,8 @@
 // The bench's text (docs/RULES.md, section 12): where a line ends, and what kind it is.
 #![tactic(auto)]
 
-ghost use Rattle.std.specs.Prelude.{◌≡◌, ◌≤◌, ◌+◌, length};
+ghost use Rattle.std.specs.Prelude.{◌≡◌, ◌==◌, ◌≤◌, ◌+◌, length};
+ghost use Rattle.std.specs.List.{position};
 ghost use Rattle.text.specs.Lines.{kind_of, newline_among, ends_after, line_end};
 
 use digits::all_digits;
@@ -22,62 +23,36 @@ pub enum Kind {
 }
 
 // What kind a line is, its newline apart. The length is asked first, so that the digits are gone through in a loop of known length.
+#[tactic(auto, using(std::proofs::lemmas::Bool::Decides::nat_tests), unfolding(crate::specs::Lines::kind_of))]
 pub fn kind_of(line: &[u8]) -> Kind
     ensures { result ≡ kind_of line.now }
 {
-    if line.len() == 0 {
-        return Kind::Read;
+    match line.len() {
+        0 => Kind::Read,
+        36 if all_digits(line) => Kind::Scan,
+        3 if all_digits(line) => Kind::Frame,
+        288 if all_digits(line) => Kind::Map,
+        _ => Kind::Malformed,
     }
-    if line.len() == 36 {
-        if all_digits(line) {
-            return Kind::Scan;
-        }
-        return Kind::Malformed;
-    }
-    if line.len() == 3 {
-        if all_digits(line) {
-            return Kind::Frame;
-        }
-        return Kind::Malformed;
-    }
-    if line.len() == 288 {
-        if all_digits(line) {
-            return Kind::Map;
-        }
-        return Kind::Malformed;
-    }
-    Kind::Malformed
 }
 
-// A newline stands among n characters from a place on.
+// A newline stands among n characters from a place on. An early exit, as `contains` has it, would take them one by one.
 fn newline_among(text: &[u8], at: usize, n: usize) -> bool
     requires { at + n ≤ length text.now }
     ensures { result ≡ newline_among text.now at n }
 {
     let mut found = false;
-    let mut i: usize = 0;
-    while i < n {
-        if text[at + i] == 10 {
-            found = true;
-        }
-        i += 1;
+    for c in &text[at..at + n] {
+        found |= *c == b'\n';
     }
     found
 }
 
-// The first newline from a place on, character by character.
-fn searched(text: &[u8], at: usize) -> usize
-    requires { at ≤ length text.now }
-    ensures { result ≡ line_end text.now at }
+// The first newline, character by character.
+fn first_newline(text: &[u8]) -> Option<usize>
+    ensures { result ≡ position (λ c. c == 10) text.now }
 {
-    let mut i = at;
-    while i < text.len() {
-        if text[i] == 10 {
-            return i;
-        }
-        i += 1;
-    }
-    i
+    text.iter().position(|c| *c == b'\n')
 }
 
 // The line at a place ends after n characters.
@@ -88,29 +63,25 @@ fn ends_after(text: &[u8], at: usize, n: usize) -> bool
     if text.len() - at <= n {
         return false;
     }
-    if text[at + n] != 10 {
-        return false;
-    }
-    !newline_among(text, at, n)
+    text[at + n] == b'\n' && !newline_among(text, at, n)
 }
 
+// The lengths that lines have. 0 comes first, since a read has nothing before its newline, and then 36, since most lines are scans.
+const LENGTHS: [usize; 4] = [0, 36, 3, 288];
+
 // The first newline from a place on, or the end of the text. The lengths that lines have are tried first: other lines are searched
-// character by character. 0 comes first, since a read has nothing before its newline, and then 36, since most lines are scans.
+// character by character.
 pub fn end_of(text: &[u8], at: usize) -> usize
     requires { at ≤ length text.now }
     ensures { result ≡ line_end text.now at }
 {
-    if ends_after(text, at, 0) {
-        return at;
+    for n in LENGTHS {
+        if ends_after(text, at, n) {
+            return at + n;
+        }
     }
-    if ends_after(text, at, 36) {
-        return at + 36;
+    match first_newline(&text[at..]) {
+        Some(n) => at + n,
+        None => text.len(),
     }
-    if ends_after(text, at, 3) {
-        return at + 3;
-    }
-    if ends_after(text, at, 288) {
-        return at + 288;
-    }
-    searched(text, at)
 }
