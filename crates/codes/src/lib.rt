@@ -4,6 +4,9 @@
 
 use std::marker::Model;
 
+// A set and a key are bytes, and no types of their own: what is promised (`encode`) holds of every byte, and no caller need show that its
+// byte is one.
+
 pub mod bytes; // bytes.rt: bytes put one after another
 pub mod rows; // rows.rt: what a key's number and its type say
 pub mod plain; // plain.rt: the bytes of an action of a key with one form

@@ -19,7 +19,7 @@ pub enum EncodeError {
 // Keys are numbered from 1 to this.
 const LAST_KEY: u32 = keys::LAST_KEY as u32;
 
-// What the encoder may be asked for.
+// What the encoder may be asked for. The numbers stay six words, as the promise of `keydock_key_codes` has them.
 #[tactic(auto, unfolding(crate::specs::Encoder::allowed))]
 fn is_allowed(set: u32, key: u32, event: u32, kind: u32, modifiers: u32, lock: u32) -> bool
     ensures { result ≡ allowed set key event kind modifiers lock }

@@ -6,7 +6,8 @@
 ghost use Rattle.std.specs.Prelude.{◌≡◌};
 ghost use Rattle.keys.specs.Keys.{laid_out, code_in, mark_of};
 
-// The four types that a key can have in set 3, numbered in the order of the commands F7 to FA.
+// The four types that a key can have in set 3, numbered in the order of the commands F7 to FA. They stay bytes: a type is a byte of the
+// record, and what is promised of it (sends_release, may_repeat) holds of every byte.
 pub const TYPEMATIC: u8 = 0;
 
 pub const MAKE_BREAK: u8 = 1;
@@ -47,12 +48,11 @@ pub const FIRST_MEDIA: u8 = 105;
 // Places for something of each key, by its number: place 0 is no key's.
 pub const PLACES: usize = LAST_KEY as usize + 1;
 
-// The codes of all keys, each key's as an array; that they are those of the rules is part of the type, so whoever is lent a table may rely
-// on it.
+// The codes of all keys, read where they lie; that they are those of the rules is part of the type, so whoever is lent a table may rely on it.
 #[derive(Drop)]
 pub struct Table {
-    rows: [[u16; 3]; LAST_KEY as usize],
-    ghost laid: { rows ≡ laid_out },
+    rows: &'static [[u16; 3]; LAST_KEY as usize],
+    ghost laid: { rows.now ≡ laid_out },
 }
 
 // Key 1 stands first: its codes in sets 1, 2 and 3. A code above 255 has the prefix E0: 0xe05b is sent as E0 5B. 0 is no code.
@@ -186,12 +186,12 @@ const KEYS: [[u16; 3]; LAST_KEY as usize] = [
 ];
 
 impl Table {
-    // The whole table, for a caller to lay out once and lend. No other function names it: the check pays for each that does.
+    // The whole table, for a caller to have once and lend. No other function names it: the check pays for each that does.
     #[tactic(auto, unfolding(crate::specs::Keys::laid_out, crate::specs::Keys::rows))]
     pub fn new() -> Self
-        ensures { result.rows ≡ laid_out }
+        ensures { result.rows.now ≡ laid_out }
     {
-        Table { rows: KEYS }
+        Table { rows: &KEYS }
     }
 
     // The code of a key: the one place where an action looks into the table. A number that is no key has none.

@@ -3,9 +3,8 @@
 
 mod wraps; // wraps.rt: what a wrapping sends around a key
 
-ghost use Rattle.std.specs.Prelude.{◌≡◌, ◌++◌, ℕ, ◌≤◌};
-ghost use Rattle.codes.specs.Codes.{make_of, before, code_of, pause_bytes, pauses_at_once, bytes_of, encode};
-ghost use Rattle.codes.specs.declared.Action.TheVariants.{Press, Release, Repeat};
+ghost use Rattle.std.specs.Prelude.{◌≡◌, ◌≤◌};
+ghost use Rattle.codes.specs.Codes.{code_of, pause_bytes, pauses_at_once, encode};
 ghost use Rattle.codes.specs.Sequences.{holding};
 
 use crate::wraps::{with_after, with_before};
@@ -46,7 +45,8 @@ fn pauses_at_once(set: u8, key: u8) -> bool
     key == PAUSE && (set == 1 || set == 2)
 }
 
-// The bytes that an action of a key sends, by a table that the caller laid out.
+// The bytes that an action of a key sends, by a table that the caller has. What is asked stays six words: a struct of them would be made only
+// to be handed on, by each of the two callers.
 #[tactic(auto, using(codes::proofs::Rules::joins, codes::proofs::AtOnce::at_once_range), unfolding(codes::specs::Codes::encode, codes::specs::Codes::bytes_of))]
 pub fn sequence_in(
     table: &Table,
@@ -87,6 +87,5 @@ pub fn sequence_of(
 ) -> Sequence
     ensures { result ≡ holding (encode set key action kind modifiers lock) }
 {
-    let table = Table::new();
-    sequence_in(&table, set, key, action, kind, modifiers, lock)
+    sequence_in(&Table::new(), set, key, action, kind, modifiers, lock)
 }
