@@ -25,7 +25,7 @@ use wire::read::read_in_place;
 fn check(dock: &Dock) -> Result<(), Refusal>
     ensures { result ≡ pick (in_range dock.now) (Ok tt) (Err BadRecord) }
 {
-    if range::in_range(*dock) {
+    if range::in_range(dock) {
         return Ok(());
     }
     Err(Refusal::BadRecord)

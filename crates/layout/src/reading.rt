@@ -62,6 +62,6 @@ pub fn record_in(lent: &[u8]) -> Option<Dock>
         held: part_in(bytes, HELD),
         rest: rest_in(bytes),
     };
-    let good = (bytes[SCANNING] <= 1) & (bytes[HANDOVER] <= 1) & range::in_range(dock);
+    let good = (bytes[SCANNING] <= 1) & (bytes[HANDOVER] <= 1) & range::in_range(&dock);
     if good { Some(dock) } else { None }
 }

@@ -30,7 +30,7 @@ pub fn step_in_place(dock: &mut Dock, line: &[u8]) -> Printed
 pub fn step(dock: &mut Dock, line: &[u8]) -> Printed
     ensures { Answers stepped_says (stepped dock.new result) (step_of dock.old line.now) (step_said dock.old line.now) }
 {
-    if !range::in_range(*dock) {
+    if !range::in_range(dock) {
         return Err(Refusal::BadRecord.number());
     }
     step_in_place(dock, line)

@@ -9,18 +9,19 @@ use hostbytes::{CHOOSE_SET, INDICATORS, KEY_TYPE, LAST_KEY_TYPE, RATE};
 use record::{Dock, Mode, Outgoing, Rest};
 
 // A set, a rate and indicators that the host can choose.
-fn is_good_mode(mode: Mode) -> bool
-    ensures { result ≡ good_mode mode }
+#[tactic(auto, unfolding(crate::specs::Range::good_mode))]
+fn is_good_mode(mode: &Mode) -> bool
+    ensures { result ≡ good_mode mode.now }
 {
     (1 <= mode.set) & (mode.set <= 3) & (mode.rate <= 127) & (mode.indicators <= 7)
 }
 
 // A queue, a key or none, and a countdown that no interval outlasts.
-fn is_good_outgoing(outgoing: Outgoing) -> bool
-    ensures { result ≡ good_outgoing outgoing }
+#[tactic(auto, unfolding(crate::specs::Range::good_outgoing))]
+fn is_good_outgoing(outgoing: &Outgoing) -> bool
+    ensures { result ≡ good_outgoing outgoing.now }
 {
-    let queue = outgoing.queue;
-    queue.is_tidy() & (outgoing.repeating <= keys::LAST_KEY) & (outgoing.countdown <= 240)
+    outgoing.queue.is_tidy() & (outgoing.repeating <= keys::LAST_KEY) & (outgoing.countdown <= 240)
 }
 
 // A command that takes a value.
@@ -33,23 +34,21 @@ pub fn takes_value(byte: u8) -> bool
         | ((KEY_TYPE <= byte) & (byte <= LAST_KEY_TYPE))
 }
 
-// What is passed by value is in its range.
-pub fn is_good_rest(rest: Rest) -> bool
-    ensures { result ≡ good_rest rest }
+// All but the arrays is in its range.
+#[tactic(auto, unfolding(crate::specs::Range::good_rest))]
+pub fn is_good_rest(rest: &Rest) -> bool
+    ensures { result ≡ good_rest rest.now }
 {
-    let outgoing = rest.outgoing;
-    let mode = rest.mode;
-    let replies = rest.replies;
-    is_good_outgoing(outgoing)
-        & is_good_mode(mode)
-        & replies.is_tidy()
+    is_good_outgoing(&rest.outgoing)
+        & is_good_mode(&rest.mode)
+        & rest.replies.is_tidy()
         & ((rest.waiting == 0) | takes_value(rest.waiting))
 }
 
 // Every part is in its range: of the arrays only the map has one.
-pub fn in_range(dock: Dock) -> bool
-    ensures { result ≡ in_range dock }
+#[tactic(auto, unfolding(crate::specs::Range::in_range))]
+pub fn in_range(dock: &Dock) -> bool
+    ensures { result ≡ in_range dock.now }
 {
-    let rest = dock.rest;
-    all_up_to(keys::LAST_KEY, &dock.map) & is_good_rest(rest)
+    all_up_to(keys::LAST_KEY, &dock.map) & is_good_rest(&dock.rest)
 }
