@@ -97,19 +97,16 @@ read_in_range d h =
     (λ byte. remembering_in_range _ (reply_in_range d h) byte)
 
 -- The same as the code has it, whatever the map is.
-module _ (d : Dock) (h : good_rest d.rest ≡ true) (byte : ℕ) (kept : Dock) where
+module _ (d : Dock) (h : good_rest d.rest ≡ true) where
   bare : in_range (with_map d []) ≡ true
   bare = alone_in_range d.rest h _ _ _ _
 
-  pub reply_leaves_range : (behind : Replies) → behind ≡ replies_behind d.rest.replies → kept ≡ remembering (with_replies d behind) byte
-      → good_rest kept.rest ≡ true
-  unfolding remembering
-  reply_leaves_range behind e k = rw (k, e) (in_range_rest _ (remembering_in_range _ (reply_in_range (with_map d []) bare) byte))
+  pub reply_leaves_range : (left : Replies) → left ≡ replies_behind d.rest.replies → good_rest (with_replies d left).rest ≡ true
+  reply_leaves_range left e = rw e (in_range_rest _ (reply_in_range (with_map d []) bare))
 
-  pub key_byte_leaves_range : (behind : Queue) → behind ≡ without_oldest d.rest.outgoing.queue
-      → kept ≡ remembering (with_keys d (with_queue (keys_of d) behind)) byte → good_rest kept.rest ≡ true
-  unfolding remembering
-  key_byte_leaves_range behind e k = rw (k, e) (in_range_rest _ (remembering_in_range _ (key_byte_in_range (with_map d []) bare) byte))
+  pub key_byte_leaves_range : (left : Queue) → left ≡ without_oldest d.rest.outgoing.queue
+      → good_rest (with_keys d (with_queue (keys_of d) left)).rest ≡ true
+  key_byte_leaves_range left e = rw e (in_range_rest _ (key_byte_in_range (with_map d []) bare))
 
 -- A swap.
 opened_in_range : (d : Dock) (map : List ℕ) → in_range d ≡ true → all_up_to last_key map ≡ true → in_range (opened d map) ≡ true

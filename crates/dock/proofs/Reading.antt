@@ -1,10 +1,13 @@
--- A read as the code meets it, test by test. Assumes nothing.
+-- A read as the code meets it, by what is taken off. Assumes nothing.
 use mathlib.Core.Path.{◌≡◌}
-use mathlib.Core.Bool.{true}
-use Prim.Native.Nat.{ℕ, ◌≤◌}
+use mathlib.Core.Bool.{true, false}
+use mathlib.Core.List.{List, [], ◌∷◌}
+use Prim.Native.Nat.{ℕ, zero, suc}
 use native.Mathlib.Omega.{arith}
-use lib.ListN.{get_or}
-use Rattle.std.specs.Prelude.{Some, Ok}
+use borrow.Author.Tests.{ne_eqb}
+use lib.Dec.{eqb}
+use lib.ListN.{get_or, take}
+use Rattle.std.specs.Prelude.{Some, None, Ok, slice_get}
 use Rattle.queue.specs.declared.Queue.{Queue}
 use Rattle.replies.specs.declared.Replies.{Replies}
 use Rattle.queue.specs.Queues.{waiting}
@@ -14,43 +17,40 @@ use Rattle.record.specs.Views.{with_queue, keys_of}
 use Rattle.record.specs.Parts.{with_replies, with_keys}
 use Rattle.range.specs.Range.{in_range}
 use Rattle.dock.specs.declared.Given.TheVariants.{Reply, KeyByte}
-use Rattle.dock.specs.Answers.{Taken, taken}
+use Rattle.dock.specs.Answers.{taken}
 use Rattle.dock.specs.Closing.{closing}
-use Rattle.dock.specs.Read.{oldest, without_oldest, oldest_reply, replies_behind, remembering, reply_taken, key_byte_taken, read, read_of}
+use Rattle.dock.specs.Read.{without_oldest, replies_behind, remembering, reply_taken, key_byte_taken, read, read_of}
 
--- The oldest byte of a queue stands in front, and so does the oldest reply.
-pub oldest_in_front : (q : Queue) → 1 ≤ q.length → get_or q.bytes 0 0 ≡ oldest q
-unfolding waiting
-oldest_in_front q h = grind arith
+-- In its range the record is read.
+pub read_done : (d : Dock) → in_range d ≡ true → read d ≡ read_of d
+unfolding read_of
+read_done d h = rw h
 
-pub oldest_reply_in_front : (r : Replies) → 1 ≤ r.length → get_or r.bytes 0 0 ≡ oldest_reply r
-unfolding waiting_replies
-oldest_reply_in_front r h = grind arith
+-- The first so many of some bytes wait, and there is an oldest.
+some_waits : (count : ℕ) (bytes : List ℕ) (byte : ℕ) → Some byte ≡ slice_get (take count bytes) 0
+    → (eqb count 0 ≡ false) × (get_or (take count bytes) 0 0 ≡ byte)
+some_waits zero bytes byte e = absurd (cc)
+some_waits (suc n) [] byte e = absurd (cc)
+some_waits (suc n) (x ∷ bytes) byte e = (ne_eqb (suc n) 0 (λ z. omega arith), cc)
 
--- A byte was given.
-module _ (d : Dock) (byte : ℕ) (kept r : Dock) (i : r ≡ closing kept) where
-  pub reply_given : (rest : Replies) → byte ≡ oldest_reply d.rest.replies → rest ≡ replies_behind d.rest.replies
-      → kept ≡ remembering (with_replies d rest) byte → taken (Ok (Some (Reply byte))) r ≡ reply_taken d
-  unfolding reply_taken
-  reply_given rest b e k = rw (i, k, e, b)
-
-  pub key_byte_given : (rest : Queue) → byte ≡ oldest d.rest.outgoing.queue → rest ≡ without_oldest d.rest.outgoing.queue
-      → kept ≡ remembering (with_keys d (with_queue (keys_of d) rest)) byte → taken (Ok (Some (KeyByte byte))) r ≡ key_byte_taken d
-  unfolding key_byte_taken
-  key_byte_given rest b e k = rw (i, k, e, b)
-
--- The whole call: in its range the record is read,
 module _ (d : Dock) where
-  pub read_done : in_range d ≡ true → read d ≡ read_of d
-  unfolding read_of
-  read_done h = rw h
+  -- What is given is the oldest.
+  module _ (byte : ℕ) (r : Dock) where
+    pub read_reply : Some byte ≡ slice_get (waiting_replies d.rest.replies) 0 → (left : Replies) → left ≡ replies_behind d.rest.replies
+        → r ≡ closing (remembering (with_replies d left) byte) → taken (Ok (Some (Reply byte))) r ≡ read d
+    unfolding read reply_taken waiting_replies
+    read_reply e left l i =
+        let w = some_waits d.rest.replies.length d.rest.replies.bytes byte e in
+        rw (i, l, w.0, w.1)
 
-  -- by what waits.
-  pub read_reply : (d.rest.replies.length ≡ 0 → ⊥) → (r : Taken) → r ≡ reply_taken d → r ≡ read d
+    pub read_key_byte : d.rest.replies.length ≡ 0 → Some byte ≡ slice_get (waiting d.rest.outgoing.queue) 0 → (left : Queue)
+        → left ≡ without_oldest d.rest.outgoing.queue → r ≡ closing (remembering (with_keys d (with_queue (keys_of d) left)) byte)
+        → taken (Ok (Some (KeyByte byte))) r ≡ read d
+    unfolding read key_byte_taken waiting
+    read_key_byte none e left l i =
+        let w = some_waits d.rest.outgoing.queue.length d.rest.outgoing.queue.bytes byte e in
+        rw (i, l, none, w.0, w.1)
+
+  pub read_nothing : (r : Dock) → d.rest.replies.length ≡ 0 → d.rest.outgoing.queue.length ≡ 0 → r ≡ closing d → taken (Ok None) r ≡ read d
   unfolding read
-  read_reply n r i = grind arith
-
-  module _ (n : d.rest.replies.length ≡ 0) where
-    pub read_key_byte : (d.rest.outgoing.queue.length ≡ 0 → ⊥) → (r : Taken) → r ≡ key_byte_taken d → r ≡ read d
-    unfolding read
-    read_key_byte m r i = grind arith
+  read_nothing r none empty i = rw (i, none, empty)

@@ -1,7 +1,7 @@
 // Bytes that wait to be read (docs/RULES.md, section 7): first in, first out, 16 at most.
 #![tactic(auto)]
 
-ghost use Rattle.std.specs.Prelude.{◌≡◌, true, [], ◌≤◌, drop, slice_get};
+ghost use Rattle.std.specs.Prelude.{◌≡◌, true, [], ◌≤◌, drop, slice_get, IfNone};
 ghost use Rattle.queue.specs.Queues.{waiting, queue_of, tidy, contents, room_for, has_room, last_replaced, pushed_to};
 
 use crate::arrays::{is_tidy_array, moved_up};
@@ -69,6 +69,7 @@ impl Queue {
     pub fn pop(&mut self) -> Option<u8>
         requires { tidy self.old ≡ true }
         ensures oldest { result ≡ slice_get (waiting self.old) 0 }
+        ensures nothing { IfNone result ((self.old.length ≡ 0) × (self.new ≡ self.old)) }
         ensures others { self.new ≡ queue_of (drop 1 (waiting self.old)) }
     {
         if self.length == 0 {

@@ -1,7 +1,7 @@
 // The replies that wait (docs/RULES.md, section 11): three at most, because nothing is answered with more.
 #![tactic(auto)]
 
-ghost use Rattle.std.specs.Prelude.{◌≡◌, true, ◌≤◌, drop, slice_get};
+ghost use Rattle.std.specs.Prelude.{◌≡◌, true, ◌≤◌, drop, slice_get, IfNone};
 ghost use Rattle.replies.specs.Replies.{waiting_replies, replies_of, tidy_replies};
 
 use queue::arrays::{is_tidy_array, moved_up};
@@ -38,6 +38,7 @@ impl Replies {
     pub fn pop(&mut self) -> Option<u8>
         requires { tidy_replies self.old ≡ true }
         ensures oldest { result ≡ slice_get (waiting_replies self.old) 0 }
+        ensures nothing { IfNone result ((self.old.length ≡ 0) × (self.new ≡ self.old)) }
         ensures others { self.new ≡ replies_of (drop 1 (waiting_replies self.old)) }
     {
         if self.length == 0 {
