@@ -84,7 +84,8 @@ pub fn at_rest(closed: &Columns, counts: &Counts, scan: &Columns) -> bool
     shows(closed, scan) && all_up_to(0, counts)
 }
 
-// The contacts after a counted scan, in place.
+// The contacts after a counted scan, in place. Both arrays are lent as the record has them: they travel together in these two alone, and definitions
+// name the record's fields.
 pub fn count(closed: &mut Columns, counts: &mut Counts, scan: &Columns)
     ensures { contacts closed.new counts.new ≡ counted_of (contacts closed.old counts.old) scan.now }
 {

@@ -12,6 +12,7 @@ ghost use Rattle.std.specs.Prelude.{◌≡◌, ℕ, ◌≤◌, slice_index};
 ghost use Rattle.phantom.specs.Phantom.{two_closed, is_phantom, any_two_closed, shares_at};
 
 // Two or more rows are closed: one is still there when the lowest is taken away. Of no rows none is left, whatever the number before 0.
+// Ones are not counted, as in frames.
 fn two_closed(rows: u8) -> bool
     ensures { result ≡ two_closed rows }
 {
@@ -19,7 +20,7 @@ fn two_closed(rows: u8) -> bool
     rows & before != 0
 }
 
-// Some column has two or more closed rows.
+// Some column has two or more closed rows. An early exit, as `any` has it, would take the columns one by one.
 fn any_two_closed(scan: &[u8; 18]) -> bool
     ensures { result ≡ any_two_closed scan.now }
 {
