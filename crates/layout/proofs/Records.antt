@@ -10,12 +10,13 @@ use lib.ListN.{length, drop, length-drop}
 use lib.Seq.{length-take-le, drop-cons}
 use Rattle.std.specs.Array.{IsWholeChunk}
 use Rattle.basics.proofs.Flags.{left_of_both, right_of_both}
+use Rattle.basics.specs.Lists.{all_up_to}
 use Rattle.keys.specs.Keys.{last_key}
 use Rattle.record.specs.declared.Rest.{Rest}
 use Rattle.record.specs.declared.Dock.{Dock}
 use Rattle.record.specs.Parts.{dock_with}
 use Rattle.record.specs.Sized.{IsSized}
-use Rattle.range.specs.Range.{in_range}
+use Rattle.range.specs.Range.{good_rest, in_range}
 use Rattle.layout.specs.Layout.{types_at, closed_at, counts_at, held_at, queue_at, size, part, small_at, small, map_in, types_in, closed_in, counts_in, held_in, rest_in, record_in, is_record}
 
 module _ (l : List ℕ) (h : is_record l ≡ true) where
@@ -39,22 +40,17 @@ pub another_size : (l : List ℕ) → (length l ≡ size → ⊥) → is_record 
 unfolding is_record
 another_size l n = rw (ne_eqb (length l) size n)
 
--- Copies of the parts make the record that lies in the bytes.
-pub copied : (b map closed counts held types : List ℕ) (rest : Rest) → map ≡ map_in b → closed ≡ closed_in b → counts ≡ counts_in b → held ≡ held_in b
-    → types ≡ types_in b → rest ≡ rest_in b → dock_with map closed counts held types rest ≡ record_in b
-copied b map closed counts held types rest m c n k t r = rw (m, c, n, k, t, r)
+-- The tests of all the bytes tell whether they are a record.
+module _ (l b : List ℕ) (whole : IsWholeChunk l b size) (map rest : Bool) (m : map ≡ all_up_to last_key (map_in b)) (r : rest ≡ good_rest (rest_in b)) where
+  joined_record : (leb (small 10 b) 1 && leb (small 12 b) 1 && map && rest) ≡ is_record l
+  unfolding is_record in_range
+  joined_record = rw (eq-eqb (length l) size whole.long, m, r, whole.same) (simp and_assoc)
 
--- The tests of such a copy, of all the bytes, tell whether they are a record.
-module _ (l b : List ℕ) (whole : IsWholeChunk l b size) (d : Dock) (same : d ≡ record_in b) (range : Bool) (r : range ≡ in_range d) where
-  joined_record : (leb (small 10 b) 1 && leb (small 12 b) 1 && range) ≡ is_record l
-  unfolding is_record
-  joined_record = rw (eq-eqb (length l) size whole.long, r, same, whole.same) (simp and_assoc)
+  pub tested_record : (leb (small 10 b) 1 && leb (small 12 b) 1 && map && rest) ≡ true → (is_record l ≡ true) × (b ≡ l)
+  tested_record t = (sym joined_record ∙ t, whole.same)
 
-  pub found_record : (leb (small 10 b) 1 && leb (small 12 b) 1 && range) ≡ true → (is_record l ≡ true) × (d ≡ record_in l)
-  found_record t = (sym joined_record ∙ t, same ∙ ap record_in whole.same)
-
-  pub found_none : (leb (small 10 b) 1 && leb (small 12 b) 1 && range) ≡ false → is_record l ≡ false
-  found_none f = sym joined_record ∙ f
+  pub tested_none : (leb (small 10 b) 1 && leb (small 12 b) 1 && map && rest) ≡ false → is_record l ≡ false
+  tested_none f = sym joined_record ∙ f
 
 -- The replies are three of the small parts.
 pub three_replies : (l : List ℕ) → length l ≡ size → part (small_at + 6) 3 l ≡ small 6 l ∷ small 7 l ∷ small 8 l ∷ []

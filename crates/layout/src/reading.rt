@@ -21,7 +21,7 @@ fn part_in<const N: usize>(lent: &[u8], at: usize) -> [u8; N]
 }
 
 // All but the arrays.
-fn rest_in(lent: &[u8; SIZE]) -> Rest
+pub fn rest_in(lent: &[u8; SIZE]) -> Rest
     ensures { result ≡ rest_in lent.now }
 {
     Rest {
@@ -49,19 +49,29 @@ fn rest_in(lent: &[u8; SIZE]) -> Rest
     }
 }
 
-// The record that these bytes are, if they are one in its range.
-pub fn record_in(lent: &[u8]) -> Option<Dock>
-    ensures { MatchOption result (is_record lent.now ≡ false) (λ dock. (is_record lent.now ≡ true) × (dock ≡ record_in lent.now)) }
+// A record's bytes as the record.
+pub fn record_in(lent: &[u8; SIZE]) -> Dock
+    ensures { result ≡ record_in lent.now }
 {
-    let bytes = lent.as_array::<SIZE>()?;
-    let dock = Dock {
-        map: part_in(bytes, 0),
-        types: part_in(bytes, TYPES),
-        closed: part_in(bytes, CLOSED),
-        counts: part_in(bytes, COUNTS),
-        held: part_in(bytes, HELD),
-        rest: rest_in(bytes),
-    };
-    let good = (bytes[SCANNING] <= 1) & (bytes[HANDOVER] <= 1) & range::in_range(&dock);
-    if good { Some(dock) } else { None }
+    Dock {
+        map: part_in(lent, 0),
+        types: part_in(lent, TYPES),
+        closed: part_in(lent, CLOSED),
+        counts: part_in(lent, COUNTS),
+        held: part_in(lent, HELD),
+        rest: rest_in(lent),
+    }
+}
+
+// The bytes, if they are a record in its range. The record itself is not given with the answer: in an `Option` it would be copied three times, and
+// a read of nothing by C would take 1010 instructions where it takes NNN.
+pub fn as_record(lent: &[u8]) -> Option<&[u8; SIZE]>
+    ensures { MatchOption result (is_record lent.now ≡ false) (λ bytes. (is_record lent.now ≡ true) × (bytes.now ≡ lent.now)) }
+{
+    let bytes = lent.as_array()?;
+    let good = (bytes[SCANNING] <= 1)
+        & (bytes[HANDOVER] <= 1)
+        & range::all_up_to(keys::LAST_KEY, &bytes[..TYPES])
+        & range::is_good_rest(rest_in(bytes));
+    if good { Some(bytes) } else { None }
 }

@@ -30,6 +30,7 @@ fn small_of(rest: &Rest) -> [u8; 14]
 }
 
 // The record's bytes over as many others.
+#[inline(always)]
 pub fn put_record(lent: &mut [u8], dock: &Dock)
     requires { record { size : length lent.old ≡ size; short : dock.now.rest.outgoing.queue.length ≤ 16 } }
     ensures { lent.new ≡ bytes_of dock.now }

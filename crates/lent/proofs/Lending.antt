@@ -10,6 +10,7 @@ use lib.ListN.{length}
 use Rattle.basics.specs.Said.{minus}
 use Rattle.queue.specs.Queues.{queue_of}
 use Rattle.queue.proofs.Meaning.{tidy_short}
+use Rattle.record.specs.declared.Rest.{Rest}
 use Rattle.record.specs.declared.Dock.{Dock}
 use Rattle.record.specs.Views.{keys_of}
 use Rattle.record.specs.Power.{fresh_with, power_on}
@@ -20,7 +21,7 @@ use Rattle.range.proofs.Ranges.{good_keys_queue, in_range_keys}
 use Rattle.dock.specs.Calls.{Call, Scan, Swap, Frame, Read}
 use Rattle.dock.proofs.InRange.{scan_in_range, swap_in_range, frame_in_range, read_in_range}
 use Rattle.dock.proofs.Arrays.{scan_sized, swap_sized, frame_sized, read_sized, power_on_sized}
-use Rattle.layout.specs.Layout.{size, flag_of, record_in, is_record, bytes_of}
+use Rattle.layout.specs.Layout.{size, flag_of, rest_in, record_in, is_record, bytes_of}
 use Rattle.layout.proofs.Records.{record_size, record_in_range, record_sized}
 use Rattle.layout.proofs.RoundTrip.{record_back, bytes_are_record}
 use Rattle.lent.specs.Lent.{Done, done, number_for, bytes_after, power_number, power_bytes, indicators_number, scanning_number}
@@ -43,8 +44,8 @@ pub record Found (l : List ℕ) (d : Dock) : Type 0 where
   pub is : is_record l ≡ true
   pub same : d ≡ record_in l
 
-pub found : {l : List ℕ} {d : Dock} → (is_record l ≡ true) × (d ≡ record_in l) → Found l d
-found f = record { is = f.0; same = f.1 }
+pub found : {l b : List ℕ} {d : Dock} → (is_record l ≡ true) × (b ≡ l) → d ≡ record_in b → Found l d
+found f e = record { is = f.0; same = e ∙ ap record_in f.1 }
 
 pub found_in_range : {l : List ℕ} {d : Dock} → Found l d → in_range d ≡ true
 found_in_range {l = l} f = ap in_range f.same ∙ record_in_range l f.is
@@ -106,11 +107,11 @@ module _ (l : List ℕ) where
   unfolding scanning_number
   no_flag f = rw f
 
-  module _ (d : Dock) (f : Found l d) where
-    pub lamps : pos d.rest.mode.indicators ≡ indicators_number l
+  module _ (b : List ℕ) (f : (is_record l ≡ true) × (b ≡ l)) (rest : Rest) (e : rest ≡ rest_in b) where
+    pub lamps : pos rest.mode.indicators ≡ indicators_number l
     unfolding indicators_number
-    lamps = rw (f.same, f.is)
+    lamps = rw (e, f.0, f.1)
 
-    pub flag_found : pos (flag_of d.rest.scanning) ≡ scanning_number l
+    pub flag_found : pos (flag_of rest.scanning) ≡ scanning_number l
     unfolding scanning_number
-    flag_found = rw (f.same, f.is)
+    flag_found = rw (e, f.0, f.1)

@@ -8,7 +8,7 @@ ghost use Rattle.lent.specs.Lent.{answer_number, given_number, number_for, bytes
 
 use dock::{Given, Refusal};
 use layout::SIZE;
-use layout::reading::record_in;
+use layout::reading::{as_record, record_in, rest_in};
 use layout::writing::put_record;
 use record::power::power_on;
 use scan::scan_in_place;
@@ -57,9 +57,10 @@ pub fn keydock_scan(lent: &mut [u8], scan: &[u8]) -> i32
     ensures answer { result ≡ number_for (Scan scan.now) lent.old }
     ensures bytes { lent.new ≡ bytes_after (Scan scan.now) lent.old }
 {
-    let Some(mut dock) = record_in(lent) else {
+    let Some(bytes) = as_record(lent) else {
         return NO_RECORD;
     };
+    let mut dock = record_in(bytes);
     let answer = scan_in_place(&mut dock, scan);
     put_record(lent, &dock);
     answer_number(answer)
@@ -70,9 +71,10 @@ pub fn keydock_swap(lent: &mut [u8], new: &[u8]) -> i32
     ensures answer { result ≡ number_for (Swap new.now) lent.old }
     ensures bytes { lent.new ≡ bytes_after (Swap new.now) lent.old }
 {
-    let Some(mut dock) = record_in(lent) else {
+    let Some(bytes) = as_record(lent) else {
         return NO_RECORD;
     };
+    let mut dock = record_in(bytes);
     let answer = swap_in_place(&mut dock, new);
     put_record(lent, &dock);
     answer_number(answer)
@@ -83,9 +85,10 @@ pub fn keydock_frame(lent: &mut [u8], number: u32) -> i32
     ensures answer { result ≡ number_for (Frame number) lent.old }
     ensures bytes { lent.new ≡ bytes_after (Frame number) lent.old }
 {
-    let Some(mut dock) = record_in(lent) else {
+    let Some(bytes) = as_record(lent) else {
         return NO_RECORD;
     };
+    let mut dock = record_in(bytes);
     let answer = frame_in_place(&mut dock, number);
     put_record(lent, &dock);
     answer_number(answer)
@@ -96,9 +99,10 @@ pub fn keydock_read(lent: &mut [u8]) -> i32
     ensures answer { result ≡ number_for Read lent.old }
     ensures bytes { lent.new ≡ bytes_after Read lent.old }
 {
-    let Some(mut dock) = record_in(lent) else {
+    let Some(bytes) = as_record(lent) else {
         return NO_RECORD;
     };
+    let mut dock = record_in(bytes);
     let given = read_in_place(&mut dock);
     put_record(lent, &dock);
     given_number(given)
@@ -108,8 +112,8 @@ pub fn keydock_read(lent: &mut [u8]) -> i32
 pub fn keydock_indicators(lent: &[u8]) -> i32
     ensures { result ≡ indicators_number lent.now }
 {
-    match record_in(lent) {
-        Some(dock) => i32::from(dock.rest.mode.indicators),
+    match as_record(lent) {
+        Some(bytes) => i32::from(rest_in(bytes).mode.indicators),
         None => NO_RECORD,
     }
 }
@@ -118,8 +122,8 @@ pub fn keydock_indicators(lent: &[u8]) -> i32
 pub fn keydock_scanning(lent: &[u8]) -> i32
     ensures { result ≡ scanning_number lent.now }
 {
-    match record_in(lent) {
-        Some(dock) => i32::from(dock.rest.scanning),
+    match as_record(lent) {
+        Some(bytes) => i32::from(rest_in(bytes).scanning),
         None => NO_RECORD,
     }
 }

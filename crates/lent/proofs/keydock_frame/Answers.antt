@@ -18,16 +18,16 @@ returns-in_default c =
     refused_lent (Frame _) _ none
 
 pub frame_in_place-answer-requires : goal.frame_in_place-answer-requires
-frame_in_place-answer-requires c = let here = found c.in-Some.ensures in in_range_rest _ (found_in_range here)
+frame_in_place-answer-requires c = let here = found c.in-Some.ensures c.record_in-dock.ensures in in_range_rest _ (found_in_range here)
 
 pub put_record-requires : goal.put_record-requires
 put_record-requires c =
-    let here = found c.in-Some.ensures in
+    let here = found c.in-Some.ensures c.record_in-dock.ensures in
     room_after (Frame _) _ _ here _ (ap answered_done (c.frame_in_place-answer.ensures ∙ frame_taken _ _ (found_in_range here)))
 
 pub returns : goal.returns
 returns c =
-    let here = found c.in-Some.ensures in
+    let here = found c.in-Some.ensures c.record_in-dock.ensures in
     let called = called_lent (Frame _) _ _ here _ (ap answered_done (c.frame_in_place-answer.ensures ∙ frame_taken _ _ (found_in_range here))) _ c.put_record.ensures in
     let number = c.answer_number.result in
     let fits : to_z w32 (of_z w32 number) ≡ number = search rules in

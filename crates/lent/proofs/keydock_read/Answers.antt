@@ -18,16 +18,16 @@ returns-in_default c =
     refused_lent Read _ none
 
 pub read_in_place-given-requires : goal.read_in_place-given-requires
-read_in_place-given-requires c = let here = found c.in-Some.ensures in in_range_rest _ (found_in_range here)
+read_in_place-given-requires c = let here = found c.in-Some.ensures c.record_in-dock.ensures in in_range_rest _ (found_in_range here)
 
 pub put_record-requires : goal.put_record-requires
 put_record-requires c =
-    let here = found c.in-Some.ensures in
+    let here = found c.in-Some.ensures c.record_in-dock.ensures in
     room_after Read _ _ here _ (ap taken_done (c.read_in_place-given.ensures ∙ read_done _ (found_in_range here)))
 
 pub returns : goal.returns
 returns c =
-    let here = found c.in-Some.ensures in
+    let here = found c.in-Some.ensures c.record_in-dock.ensures in
     let called = called_lent Read _ _ here _ (ap taken_done (c.read_in_place-given.ensures ∙ read_done _ (found_in_range here))) _ c.put_record.ensures in
     let number = c.given_number.result in
     let fits : to_z w32 (of_z w32 number) ≡ number = search rules in

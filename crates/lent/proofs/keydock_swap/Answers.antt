@@ -16,16 +16,16 @@ returns-in_default c =
     refused_lent (Swap _) _ none
 
 pub swap_in_place-answer-requires : goal.swap_in_place-answer-requires
-swap_in_place-answer-requires c = let here = found c.in-Some.ensures in found_in_range here
+swap_in_place-answer-requires c = let here = found c.in-Some.ensures c.record_in-dock.ensures in found_in_range here
 
 pub put_record-requires : goal.put_record-requires
 put_record-requires c =
-    let here = found c.in-Some.ensures in
+    let here = found c.in-Some.ensures c.record_in-dock.ensures in
     room_after (Swap _) _ _ here _ (ap answered_done c.swap_in_place-answer.ensures)
 
 pub returns : goal.returns
 returns c =
-    let here = found c.in-Some.ensures in
+    let here = found c.in-Some.ensures c.record_in-dock.ensures in
     let called = called_lent (Swap _) _ _ here _ (ap answered_done c.swap_in_place-answer.ensures) _ c.put_record.ensures in
     let number = c.answer_number.result in
     let fits : to_z w32 (of_z w32 number) ≡ number = search rules in
