@@ -63,8 +63,8 @@ pub fn record_in(lent: &[u8; SIZE]) -> Dock
     }
 }
 
-// The bytes, if they are a record in its range. The record itself is not given with the answer: in an `Option` it would be copied three times, and
-// a read of nothing by C would take 1010 instructions where it takes NNN.
+// The bytes, if they are a record in its range. They are given back, and not the `Option` of a `Dock`: that would be copied three times, and a
+// read of nothing by C would take 1010 instructions in place of 708.
 pub fn as_record(lent: &[u8]) -> Option<&[u8; SIZE]>
     ensures { MatchOption result (is_record lent.now ≡ false) (λ bytes. (is_record lent.now ≡ true) × (bytes.now ≡ lent.now)) }
 {
@@ -72,6 +72,6 @@ pub fn as_record(lent: &[u8]) -> Option<&[u8; SIZE]>
     let good = (bytes[SCANNING] <= 1)
         & (bytes[HANDOVER] <= 1)
         & range::all_up_to(keys::LAST_KEY, &bytes[..TYPES])
-        & range::is_good_rest(rest_in(bytes));
+        & range::is_good_rest(&rest_in(bytes));
     if good { Some(bytes) } else { None }
 }
