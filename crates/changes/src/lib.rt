@@ -12,26 +12,18 @@ ghost use Rattle.keying.specs.Ready.{Ready};
 use contacts::Columns;
 use keying::let_go;
 use keying::repeating::delay_of;
-use keys::Table;
 use record::Dock;
 use record::held::set_held;
 use sending::{send_press, send_release};
 
 // A key is pressed.
-fn press(dock: &mut Dock, table: &Table, kind: u8, key: u8)
+fn press(dock: &mut Dock, kind: u8, key: u8)
     requires { record { ready : Ready dock.old; number : key < 144 } }
     ensures { dock.new
         ≡ with_keys dock.old (pressed (keys_of dock.old) dock.old.rest.mode kind key) }
 {
     let mode = dock.rest.mode;
-    send_press(
-        &dock.held,
-        &mut dock.rest.outgoing.queue,
-        table,
-        mode,
-        kind,
-        key,
-    );
+    send_press(&dock.held, &mut dock.rest.outgoing.queue, mode, kind, key);
     set_held(&mut dock.held, key, true);
     if codes::rows::may_repeat(mode.set, key, kind) {
         dock.rest.outgoing.repeating = key;
@@ -43,25 +35,18 @@ fn press(dock: &mut Dock, table: &Table, kind: u8, key: u8)
 }
 
 // A key is released.
-fn release(dock: &mut Dock, table: &Table, kind: u8, key: u8)
+fn release(dock: &mut Dock, kind: u8, key: u8)
     requires { record { ready : Ready dock.old; number : key < 144 } }
     ensures { dock.new
         ≡ with_keys dock.old (released (keys_of dock.old) dock.old.rest.mode kind key) }
 {
     let mode = dock.rest.mode;
-    send_release(
-        &dock.held,
-        &mut dock.rest.outgoing.queue,
-        table,
-        mode,
-        kind,
-        key,
-    );
+    send_release(&dock.held, &mut dock.rest.outgoing.queue, mode, kind, key);
     let_go(dock, key);
 }
 
 // The contact of a key turned, to closed (1) or to open (0).
-fn contact_turned(dock: &mut Dock, table: &Table, key: u8, closed: u8)
+fn contact_turned(dock: &mut Dock, key: u8, closed: u8)
     requires { record { ready : Ready dock.old; number : key ≤ last_key } }
     ensures { dock.new
         ≡ with_keys dock.old (moved (keys_of dock.old) dock.old.rest.mode dock.old.types key closed) }
@@ -71,14 +56,14 @@ fn contact_turned(dock: &mut Dock, table: &Table, key: u8, closed: u8)
     }
     let kind = dock.types[key as usize];
     if closed == 1 {
-        return press(dock, table, kind, key);
+        return press(dock, kind, key);
     }
-    release(dock, table, kind, key);
+    release(dock, kind, key);
 }
 
 // The contacts of a column that turned from what they were: only their rows are visited, the lowest first. A `while` over the bits of a
 // byte: each iteration takes the lowest off, and an iterator over them would do the same.
-fn column(dock: &mut Dock, table: &Table, c: usize, was: u8)
+fn column(dock: &mut Dock, c: usize, was: u8)
     requires { record { ready : Ready dock.old; column : c < 18; entries : all_up_to last_key dock.old.map ≡ true } }
     ensures { dock.new
         ≡ with_keys dock.old (rows_to 8 dock.old.rest.mode dock.old.types dock.old.map c was (get_or dock.old.closed c 0) (keys_of dock.old)) }
@@ -87,7 +72,7 @@ fn column(dock: &mut Dock, table: &Table, c: usize, was: u8)
     let mut turned = (was ^ is) as u32;
     while turned != 0 {
         let r = u32::trailing_zeros(turned) as usize;
-        contact_turned(dock, table, dock.map[8 * c + r], (is >> r) % 2);
+        contact_turned(dock, dock.map[8 * c + r], (is >> r) % 2);
         turned = turned & (turned - 1);
     }
 }
@@ -98,10 +83,9 @@ pub fn turns(dock: &mut Dock, was: &Columns)
     ensures { dock.new
         ≡ with_keys dock.old (turns_to 144 dock.old.rest.mode dock.old.types dock.old.map was.now dock.old.closed (keys_of dock.old)) }
 {
-    let table = Table::new();
     for (c, before) in was.iter().enumerate() {
         if *before != dock.closed[c] {
-            column(dock, &table, c, *before);
+            column(dock, c, *before);
         }
     }
 }

@@ -1,5 +1,5 @@
 // The bytes of a key that has one form: no modifier is looked at, and each sequence is written at once. A scan asks here:
-// sequences::sequence_in gives the same, but takes 59 to 87 instructions for a key in set 2 where this takes 44 to 55; with_make and
+// sequences::sequence_of gives the same, but takes 59 to 87 instructions for a key in set 2 where this takes 44 to 55; with_make and
 // with_break in the places of make_of and break_of take 75 to 91.
 ghost use Rattle.std.specs.Prelude.{◌≡◌, Bool, false, ℕ};
 ghost use Rattle.codes.specs.Codes.{make_of, break_of, has_forms, encode};
@@ -7,7 +7,7 @@ ghost use Rattle.codes.specs.Sequences.{holding};
 
 use crate::rows::{has_code, may_repeat, sends_release};
 use crate::{Action, Sequence};
-use keys::Table;
+use keys::code;
 
 // The make of a code and no more.
 #[tactic(auto, unfolding(crate::specs::Sequences::holding, crate::specs::Codes::make_of, crate::specs::Codes::prefix))]
@@ -40,7 +40,7 @@ fn break_of(set: u8, code: u16) -> Sequence
 
 // The bytes that an action of such a key sends.
 #[tactic(auto, using(crate::proofs::OneForm::one_form, crate::proofs::OneForm::not_at_once, crate::proofs::OneForm::code_plain, crate::proofs::OneForm::nothing_after), unfolding(crate::specs::Codes::encode, crate::specs::Codes::bytes_of, crate::specs::Codes::before))]
-pub fn plain_sequence(table: &Table, set: u8, key: u8, action: Action, kind: u8) -> Sequence
+pub fn plain_sequence(set: u8, key: u8, action: Action, kind: u8) -> Sequence
     requires { has_forms set key ≡ false }
     ensures { (modifiers : ℕ) (lock : Bool) → result ≡ holding (encode set key action kind modifiers lock) }
 {
@@ -48,9 +48,9 @@ pub fn plain_sequence(table: &Table, set: u8, key: u8, action: Action, kind: u8)
         return Sequence::new();
     }
     match action {
-        Action::Press => make_of(table.code(set, key)),
-        Action::Release if sends_release(set, kind) => break_of(set, table.code(set, key)),
-        Action::Repeat if may_repeat(set, key, kind) => make_of(table.code(set, key)),
+        Action::Press => make_of(code(set, key)),
+        Action::Release if sends_release(set, kind) => break_of(set, code(set, key)),
+        Action::Repeat if may_repeat(set, key, kind) => make_of(code(set, key)),
         _ => Sequence::new(),
     }
 }

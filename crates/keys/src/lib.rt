@@ -1,5 +1,5 @@
 // The key table: what each of the 125 keys is called on the wire (docs/RULES.md, section 1).
-// Whoever wants a code is lent the table, and nothing else names it. Two other parts have tables of their own, which their proofs
+// Whoever wants a code asks `code`, and nothing else names the table. Two other parts have tables of their own, which their proofs
 // compute from the rows of the definitions as well: the way back from a code (lookup), and the default types (record::power).
 #![tactic(auto)]
 
@@ -48,16 +48,10 @@ pub const FIRST_MEDIA: u8 = 105;
 // Places for something of each key, by its number: place 0 is no key's.
 pub const PLACES: usize = LAST_KEY as usize + 1;
 
-// The codes of all keys, read where they lie; that they are those of the rules is part of the type, so whoever is lent a table may rely on it.
-#[derive(Drop)]
-pub struct Table {
-    rows: &'static [[u16; 3]; LAST_KEY as usize],
-    ghost laid: { rows.now ≡ laid_out },
-}
-
 // Key 1 stands first: its codes in sets 1, 2 and 3. A code above 255 has the prefix E0: 0xe05b is sent as E0 5B. 0 is no code.
 // Sheet 004 has the codes; those of LWIN, RWIN and APP are in its table of new keys, those of the media keys in sheets 001 and 003.
-const KEYS: [[u16; 3]; LAST_KEY as usize] = [
+// A `static` is read where it lies; a `const` array would be laid out anew at each use.
+static KEYS: [[u16; 3]; LAST_KEY as usize] = [
     [0x29, 0x0e, 0x0e], // 1 `
     [0x02, 0x16, 0x16], // 2 1
     [0x03, 0x1e, 0x1e], // 3 2
@@ -185,30 +179,29 @@ const KEYS: [[u16; 3]; LAST_KEY as usize] = [
     [0xe063, 0xe05e, 0], // 125 WAKE-UP
 ];
 
-impl Table {
-    // The whole table, for a caller to have once and lend. No other function names it: the check pays for each that does.
-    #[tactic(auto, unfolding(crate::specs::Keys::laid_out, crate::specs::Keys::rows))]
-    pub fn new() -> Self
-        ensures { result.rows.now ≡ laid_out }
-    {
-        Table { rows: &KEYS }
+// The code in a row of the table. A number that is no key has none.
+#[tactic(auto, using(crate::proofs::Laws::no_key, crate::proofs::Laws::past_the_keys, crate::proofs::Laws::at_its_place), unfolding(crate::specs::Keys::code_in))]
+fn code_at(rows: &[[u16; 3]; LAST_KEY as usize], set: u8, key: u8) -> u16
+    requires { rows.now ≡ laid_out }
+    ensures { result ≡ code_in set key }
+{
+    if key == 0 || LAST_KEY < key {
+        return 0;
     }
+    let [one, two, three] = rows[key as usize - 1];
+    match set {
+        1 => one,
+        2 => two,
+        _ => three,
+    }
+}
 
-    // The code of a key: the one place where an action looks into the table. A number that is no key has none.
-    #[tactic(auto, using(crate::proofs::Laws::no_key, crate::proofs::Laws::past_the_keys, crate::proofs::Laws::at_its_place), unfolding(crate::specs::Keys::code_in))]
-    pub fn code(&self, set: u8, key: u8) -> u16
-        ensures { result ≡ code_in set key }
-    {
-        if key == 0 || LAST_KEY < key {
-            return 0;
-        }
-        let [one, two, three] = self.rows[key as usize - 1];
-        match set {
-            1 => one,
-            2 => two,
-            _ => three,
-        }
-    }
+// The code of a key: the one place where an action looks into the table.
+#[tactic(auto, unfolding(crate::specs::Keys::laid_out, crate::specs::Keys::rows))]
+pub fn code(set: u8, key: u8) -> u16
+    ensures { result ≡ code_in set key }
+{
+    code_at(&KEYS, set, key)
 }
 
 // The overrun mark of a set (docs/RULES.md, section 7): what is queued, and read, in place of bytes that had no room.

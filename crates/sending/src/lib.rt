@@ -13,7 +13,7 @@ ghost use Rattle.sending.specs.Sending.{num_lock, sends_with, queued_of, shortes
 
 use codes::rows::has_code;
 use codes::{Action, Sequence};
-use keys::{Table, mark_of};
+use keys::mark_of;
 use queue::Queue;
 use record::held::is_held;
 use record::{Held, Mode};
@@ -54,29 +54,14 @@ fn num_lock(indicators: u8) -> bool
     indicators / 2 % 2 == 1
 }
 
-// The bytes that an action of a key sends.
+// The bytes that an action of a key sends. A key of one form does not ask what else is held.
 pub fn bytes_of(held: &Held, mode: Mode, kind: u8, key: u8, action: Action) -> Sequence
     ensures { result ≡ holding (sends_with held.now mode kind key action) }
 {
-    sequences::sequence_of(
-        mode.set,
-        key,
-        action,
-        kind,
-        modifiers_of(held),
-        num_lock(mode.indicators),
-    )
-}
-
-// The same by a key table at hand. A key of one form does not ask what else is held.
-fn bytes_in(held: &Held, table: &Table, mode: Mode, kind: u8, key: u8, action: Action) -> Sequence
-    ensures { result ≡ holding (sends_with held.now mode kind key action) }
-{
     if !forms::has_forms(mode.set, key) {
-        return codes::plain::plain_sequence(table, mode.set, key, action, kind);
+        return codes::plain::plain_sequence(mode.set, key, action, kind);
     }
-    sequences::sequence_in(
-        table,
+    sequences::sequence_of(
         mode.set,
         key,
         action,
@@ -117,7 +102,7 @@ fn shortest_release(set: u8) -> usize
 // What a press sends is queued. A full queue takes nothing: there the mark is put without asking what is sent, unless it is nothing, since
 // the key has no code. The flags, the queue and the mode are lent one by one, and not the dock: tried, and neither the clause nor the
 // proof is shorter.
-pub fn send_press(held: &Held, queue: &mut Queue, table: &Table, mode: Mode, kind: u8, key: u8)
+pub fn send_press(held: &Held, queue: &mut Queue, mode: Mode, kind: u8, key: u8)
     requires { tidy queue.old ≡ true }
     ensures { queue.new ≡ queued_of queue.old mode (sends_with held.now mode kind key Press) }
 {
@@ -129,12 +114,12 @@ pub fn send_press(held: &Held, queue: &mut Queue, table: &Table, mode: Mode, kin
         queue.mark_last(mark_of(mode.set as u32));
         return;
     }
-    let sequence = bytes_in(held, table, mode, kind, key, Action::Press);
+    let sequence = bytes_of(held, mode, kind, key, Action::Press);
     queue.push(sequence, mark_of(mode.set as u32));
 }
 
 // What a release sends, likewise: nothing changes if it is silent, and where the shortest has no room the mark is put.
-pub fn send_release(held: &Held, queue: &mut Queue, table: &Table, mode: Mode, kind: u8, key: u8)
+pub fn send_release(held: &Held, queue: &mut Queue, mode: Mode, kind: u8, key: u8)
     requires { record { tidied : tidy queue.old ≡ true; mode : good_mode mode ≡ true } }
     ensures { queue.new ≡ queued_of queue.old mode (sends_with held.now mode kind key Release) }
 {
@@ -146,6 +131,6 @@ pub fn send_release(held: &Held, queue: &mut Queue, table: &Table, mode: Mode, k
         queue.mark_last(mark_of(mode.set as u32));
         return;
     }
-    let sequence = bytes_in(held, table, mode, kind, key, Action::Release);
+    let sequence = bytes_of(held, mode, kind, key, Action::Release);
     queue.push(sequence, mark_of(mode.set as u32));
 }

@@ -11,17 +11,17 @@ use crate::wraps::{with_after, with_before};
 use codes::rows::{has_code, may_repeat, sends_release};
 use codes::{Action, Form, Sequence};
 use forms::form_of;
-use keys::{PAUSE, PRINT, Table};
+use keys::{PAUSE, PRINT};
 
 // The code of a key in a form: PRINT has one of its own with ALT.
 #[tactic(auto, unfolding(codes::specs::Codes::code_of))]
-fn code_of(table: &Table, set: u8, key: u8, form: Form) -> u16
+fn code_of(set: u8, key: u8, form: Form) -> u16
     ensures { result ≡ code_of set key form }
 {
     if key == PRINT && form == Form::Other {
         return if set == 1 { 0x54 } else { 0x84 };
     }
-    table.code(set, key)
+    keys::code(set, key)
 }
 
 // All of PAUSE in set 1 or 2, written out.
@@ -45,11 +45,10 @@ fn pauses_at_once(set: u8, key: u8) -> bool
     key == PAUSE && (set == 1 || set == 2)
 }
 
-// The bytes that an action of a key sends, by a table that the caller has. What is asked stays six words: a struct of them would be made only
-// to be handed on, by each of the two callers.
+// The bytes that an action of a key sends. What is asked stays six words: a struct of them would be made only to be handed on, by each of
+// the two callers.
 #[tactic(auto, using(codes::proofs::Rules::joins, codes::proofs::AtOnce::at_once_range), unfolding(codes::specs::Codes::encode, codes::specs::Codes::bytes_of))]
-pub fn sequence_in(
-    table: &Table,
+pub fn sequence_of(
     set: u8,
     key: u8,
     action: Action,
@@ -64,7 +63,7 @@ pub fn sequence_in(
         return none;
     }
     let form = form_of(set, key, modifiers, lock);
-    let code = code_of(table, set, key, form);
+    let code = code_of(set, key, form);
     match action {
         Action::Press if pauses_at_once(set, key) => pause(set, form),
         Action::Press => with_before(none, set, form).with_make(code),
@@ -74,18 +73,4 @@ pub fn sequence_in(
         Action::Repeat if may_repeat(set, key, kind) => none.with_make(code),
         _ => none,
     }
-}
-
-// The same for a caller that has no table.
-pub fn sequence_of(
-    set: u8,
-    key: u8,
-    action: Action,
-    kind: u8,
-    modifiers: u8,
-    lock: bool,
-) -> Sequence
-    ensures { result ≡ holding (encode set key action kind modifiers lock) }
-{
-    sequence_in(&Table::new(), set, key, action, kind, modifiers, lock)
 }

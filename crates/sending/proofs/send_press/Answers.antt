@@ -45,4 +45,4 @@ unfolding sends
 returns c =
     let a = c.args in
     pushed_queues a.queue.now a.mode _ _ c.mark_of-2.ensures _ _
-    (sequence_is (keys a.held.now a.queue.now 0 0) a.mode a.kind a.key Press _ c.bytes_in-sequence.ensures) c.push.ensures
+    (sequence_is (keys a.held.now a.queue.now 0 0) a.mode a.kind a.key Press _ c.bytes_of-sequence.ensures) c.push.ensures
