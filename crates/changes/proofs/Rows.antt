@@ -2,7 +2,7 @@
 use mathlib.Core.Path.{◌≡◌, refl, sym, ap, ◌∙◌}
 use mathlib.Core.List.{List}
 use Prim.Native.Nat.{ℕ, zero, suc, ◌+◌, ◌*◌, ◌≤◌}
-use native.Mathlib.Nat.{add-zero, add-suc, le_antisymm}
+use native.Mathlib.Nat.{add-zero, add-suc}
 use native.Mathlib.Omega.{arith}
 use borrow.Author.Tests.{eq-eqb}
 use lib.ListN.{get_or}
@@ -55,6 +55,3 @@ module _ (m : Mode) (types map : List ℕ) where
           → after ≡ turns_to (8 * (column + 1)) m types map was is k
       column_turns after f =
           f ∙ ap (λ (x : Keys). rows_to 8 m types map column (get_or was column 0) (get_or is column 0) x) i ∙ sym (turns_column column)
-
-      pub turns_all : column ≤ 18 → 18 ≤ column → before ≡ turns_to 144 m types map was is k
-      turns_all a b = i ∙ ap (λ (n : ℕ). turns_to (8 * n) m types map was is k) (le_antisymm a b)

@@ -1,8 +1,8 @@
 // The keys of a panel that was taken away are released, the lowest first, each as soon as its release fits (docs/RULES.md, section 8).
 #![tactic(auto)]
 
-ghost use Rattle.std.specs.Prelude.{◌≡◌, ◌≤◌, ◌<◌};
-ghost use Rattle.queue.specs.Queues.{contents};
+ghost use Rattle.std.specs.Prelude.{◌≡◌, true, ◌<◌};
+ghost use Rattle.queue.specs.Queues.{tidy, contents};
 ghost use Rattle.record.specs.Views.{keys_of};
 ghost use Rattle.record.specs.Parts.{with_keys};
 ghost use Rattle.keying.specs.Changes.{released_with};
@@ -18,7 +18,7 @@ use sending::bytes_of;
 
 // A key is released, and these bytes say so.
 fn release_with(dock: &mut Dock, key: u8, sequence: Sequence)
-    requires { record { ready : Ready dock.old; number : key < 144 } }
+    requires { record { tidied : tidy dock.old.rest.outgoing.queue ≡ true; number : key < 144 } }
     ensures { dock.new
         ≡ with_keys dock.old (released_with (keys_of dock.old) dock.old.rest.mode key (contents sequence)) }
 {

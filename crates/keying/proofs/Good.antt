@@ -1,5 +1,5 @@
 -- Keys in range stay in range, whatever happens to them. Assumes nothing.
-use mathlib.Core.Path.{◌≡◌, ap, ◌∙◌}
+use mathlib.Core.Path.{◌≡◌}
 use mathlib.Core.Bool.{Bool, true}
 use mathlib.Core.List.{List}
 use Prim.Native.Nat.{ℕ, zero, suc, ◌+◌, ◌*◌, ◌/◌, ◌%◌, ◌^◌, ◌≤◌, ◌<◌}
@@ -13,7 +13,7 @@ use Rattle.codes.specs.Codes.{may_repeat}
 use Rattle.keys.specs.Keys.{mark_of, last_key}
 use Rattle.queue.specs.declared.Queue.{Queue}
 use Rattle.queue.specs.Queues.{tidy}
-use Rattle.queue.proofs.Meaning.{tidy_short, tidy-queue_of}
+use Rattle.queue.proofs.Meaning.{tidy-queue_of}
 use Rattle.queue.proofs.Range.{pushed_tidy}
 use Rattle.record.specs.declared.Mode.{Mode}
 use Rattle.record.specs.Views.{Keys}
@@ -30,9 +30,6 @@ use Rattle.keying.proofs.Kept.{handed_keeps, moved_keeps, turns_keep}
 queued_tidy : (q : Queue) (m : Mode) (bytes : List ℕ) → tidy q ≡ true → tidy (queued_of q m bytes) ≡ true
 unfolding queued_of
 queued_tidy q m bytes t = pushed_tidy q t (mark_of m.set) bytes
-
-pub queued_short : (after q : Queue) (m : Mode) (bytes : List ℕ) → after ≡ queued_of q m bytes → tidy q ≡ true → after.length ≤ 16
-queued_short after q m bytes e t = tidy_short after (ap tidy e ∙ queued_tidy q m bytes t)
 
 -- No delay and no interval outlasts the countdown.
 delay_small : (rate : ℕ) → rate ≤ 127 → delay_of rate ≤ 240

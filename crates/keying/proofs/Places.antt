@@ -19,9 +19,9 @@ use Rattle.record.specs.Views.{Keys}
 use Rattle.sending.specs.Sending.{sends, queued_of}
 use Rattle.sending.proofs.Sent.{sends_short}
 use Rattle.keying.specs.Repeat.{is_due, repeated}
-use Rattle.keying.specs.Changes.{pressed, released_with, released, moved, turns_to}
+use Rattle.keying.specs.Changes.{pressed, released_with, released, turns_to}
 use Rattle.keying.specs.Handover.{handed_from}
-use Rattle.keying.proofs.Kept.{handed_keeps, moved_keeps, turns_keep}
+use Rattle.keying.proofs.Kept.{handed_keeps, turns_keep}
 
 pub record Places (k : Keys) : Type 0 where
   pub flags : length k.held ≡ 144
@@ -42,10 +42,6 @@ module _ (m : Mode) where
   pub released_bytes : (k : Keys) (type key : ℕ) → length k.queue.bytes ≡ 16 → length (released k m type key).queue.bytes ≡ 16
   unfolding released released_with
   released_bytes k type key e = queued_places k.queue m (sends k m type key Release) e
-
-  pub moved_bytes : (types : List ℕ) (key closed : ℕ) → key ≤ last_key → (k : Keys) → length k.queue.bytes ≡ 16
-      → length (moved k m types key closed).queue.bytes ≡ 16
-  moved_bytes = moved_keeps (λ (k : Keys). length k.queue.bytes ≡ 16) m released_bytes (λ k type key h e. pressed_bytes k type key e)
 
   pub turns_bytes : (types map : List ℕ) → all_up_to last_key map ≡ true → (n : ℕ) (was is : List ℕ) (k : Keys) → length k.queue.bytes ≡ 16
       → length (turns_to n m types map was is k).queue.bytes ≡ 16

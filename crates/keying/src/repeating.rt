@@ -11,6 +11,7 @@ use record::Dock;
 use sending::bytes_of;
 
 // The scans from a press to its first repeat.
+#[tactic(auto, unfolding(crate::specs::Repeat::delay_of))]
 pub fn delay_of(rate: u8) -> u8
     requires { rate ≤ 127 }
     ensures { result ≡ delay_of rate }
@@ -19,6 +20,7 @@ pub fn delay_of(rate: u8) -> u8
 }
 
 // The scans from a repeat to the next.
+#[tactic(auto, using(crate::proofs::Good::interval_small), unfolding(crate::specs::Repeat::interval_of))]
 fn interval_of(rate: u8) -> u8
     ensures { result ≡ interval_of rate }
 {

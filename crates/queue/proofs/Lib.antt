@@ -5,4 +5,3 @@ pub mod Range
 pub mod Checking
 pub mod Pushing
 pub mod Popping
-pub mod Once

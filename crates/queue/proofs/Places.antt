@@ -6,11 +6,10 @@ use Prim.Native.Nat.{ℕ, suc, ◌+◌, ◌-◌, ◌≤◌}
 use native.Mathlib.Omega.{arith}
 use borrow.Author.Tests.{leb-true, le-leb}
 use lib.Dec.{leb}
-use lib.ListN.{length, take, drop, get_or, replicate, length-append, length-drop, length-replicate, take-append-drop, replicate-append-replicate}
-use lib.Seq.{length-take-le, drop-append_seam, get_or-drop}
+use lib.ListN.{length, take, drop, replicate, length-append, length-drop, length-replicate, take-append-drop, replicate-append-replicate}
+use lib.Seq.{length-take-le, drop-append_seam}
 use Rattle.basics.specs.Lists.{all_up_to}
 use Rattle.basics.proofs.Flags.{left_of_both, right_of_both}
-use Rattle.basics.proofs.Limits.{up_to_at}
 use Rattle.basics.proofs.Zeros.{only_zeros, zeros_up_to_0}
 use Rattle.queue.specs.Queues.{tidy_array}
 
@@ -44,12 +43,6 @@ module _ (places : ℕ) where
 
     tidy_array_behind : all_up_to 0 (drop n b) ≡ true
     tidy_array_behind = right_of_both (leb n places) _ t
-
-    pub zero_behind : (i : ℕ) → n ≤ i → 0 ≡ get_or b i 0
-    zero_behind i h =
-        let at : n + (i - n) ≡ i = omega arith in
-        let none : get_or b (n + (i - n)) 0 ≤ 0 = rw (← get_or-drop n b (i - n) 0) (up_to_at 0 (drop n b) (i - n) tidy_array_behind) in
-        omega (arith, rw at at none)
 
     module _ (long : length b ≡ places) where
       pub tidy_array_count : length (take n b) ≡ n

@@ -18,6 +18,7 @@ pub struct Queue {
 
 impl Queue {
     // Nothing waits.
+    #[tactic(auto, unfolding(crate::specs::Queues::queue_of))]
     pub fn empty() -> Self
         ensures { result ≡ queue_of [] }
     {
@@ -28,6 +29,7 @@ impl Queue {
     }
 
     // At most 16 bytes wait, and zeros stand behind them.
+    #[tactic(auto, unfolding(crate::specs::Queues::tidy))]
     pub fn is_tidy(&self) -> bool
         ensures { result ≡ tidy self.now }
     {

@@ -2,5 +2,4 @@ pub mod Views
 pub mod Parts
 pub mod Power
 pub mod Held
-pub mod InPlace
 pub mod Sized

@@ -28,6 +28,7 @@ impl Replies {
     }
 
     // At most three wait, and zeros stand behind them.
+    #[tactic(auto, unfolding(crate::specs::Replies::tidy_replies))]
     pub fn is_tidy(&self) -> bool
         ensures { result ≡ tidy_replies self.now }
     {

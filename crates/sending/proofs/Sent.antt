@@ -26,9 +26,6 @@ module _ (k : Keys) (m : Mode) (type key : ℕ) (action : Action) where
   sends_short = encode_short m.set key action type (modifiers_of k.held) (num_lock m.indicators)
 
   module _ (s : Sequence) (e : s ≡ holding (sends k m type key action)) where
-    pub sequence_short : s.length ≤ 8
-    sequence_short = rw (e, holding_length (sends k m type key action)) sends_short
-
     pub sequence_is : contents s ≡ sends k m type key action
     sequence_is = ap contents e ∙ contents_holding (sends k m type key action)
 

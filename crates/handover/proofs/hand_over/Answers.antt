@@ -3,9 +3,7 @@ use native.Mathlib.Omega.{arith}
 use Rattle.codes.specs.declared.Sequence.{Sequence}
 use Rattle.queue.specs.Queues.{waiting, has_room}
 use Rattle.queue.proofs.Meaning.{tidy_short}
-use Rattle.record.specs.declared.Dock.{Dock}
 use Rattle.record.specs.Views.{keys_of}
-use Rattle.range.specs.Range.{good_mode}
 use Rattle.range.proofs.Ranges.{good_keys_queue}
 use Rattle.sending.specs.Sending.{sends}
 use Rattle.handover.proofs.Leaving.{begins, passes, leaves, waits, ends}
@@ -26,13 +24,8 @@ returns-then-not-fits c =
     c.if-not-fits.true
 
 pub release_with-requires : goal.release_with-requires
-unfolding sends
 release_with-requires c =
-    let e = c.loop-key.dock in
-    record {
-      ready = record { keys = c.loop-key.invariant.good; mode = ap (λ (x : Dock). good_mode x.rest.mode) c.loop-key.invariant.only ∙ c.requires.mode };
-      number = omega arith;
-    }
+    record { tidied = good_keys_queue (keys_of c.loop-key.dock) c.loop-key.invariant.good; number = omega arith }
 
 pub loop-key-preserved : goal.loop-key-preserved
 unfolding sends

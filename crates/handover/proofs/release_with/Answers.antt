@@ -3,13 +3,12 @@ use mathlib.Core.Path.{ap, ◌∙◌}
 use Rattle.queue.specs.declared.Queue.{Queue}
 use Rattle.record.specs.Views.{keys_of}
 use Rattle.record.specs.Parts.{with_keys}
-use Rattle.range.proofs.Ranges.{good_keys_queue}
 use Rattle.keying.specs.Changes.{let_go, released_with}
 use Rattle.handover.proofs.Leaving.{pushed_queued}
 use Rattle.handover.proofs.release_with.Goals as goal
 
 pub push-requires : goal.push-requires
-push-requires c = good_keys_queue (keys_of c.args.dock.now) c.requires.ready.keys
+push-requires c = c.requires.tidied
 
 pub returns : goal.returns
 unfolding released_with
