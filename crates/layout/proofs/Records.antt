@@ -12,12 +12,9 @@ use Rattle.std.specs.Array.{IsWholeChunk}
 use Rattle.basics.proofs.Flags.{left_of_both, right_of_both}
 use Rattle.basics.specs.Lists.{all_up_to}
 use Rattle.keys.specs.Keys.{last_key}
-use Rattle.record.specs.declared.Rest.{Rest}
-use Rattle.record.specs.declared.Dock.{Dock}
-use Rattle.record.specs.Parts.{dock_with}
 use Rattle.record.specs.Sized.{IsSized}
 use Rattle.range.specs.Range.{good_rest, in_range}
-use Rattle.layout.specs.Layout.{types_at, closed_at, counts_at, held_at, queue_at, size, part, small_at, small, map_in, types_in, closed_in, counts_in, held_in, rest_in, record_in, is_record}
+use Rattle.layout.specs.Layout.{types_at, closed_at, counts_at, held_at, queue_at, size, part, small_at, small, map_in, rest_in, record_in, is_record}
 
 module _ (l : List ℕ) (h : is_record l ≡ true) where
   pub record_size : length l ≡ size
