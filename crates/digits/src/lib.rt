@@ -34,6 +34,7 @@ fn value_of(c: u8) -> u8
 }
 
 // The byte that the digits 2 i and 2 i + 1 stand for.
+#[tactic(auto, using(crate::proofs::Characters::digit_at, crate::proofs::Characters::value_at_below_16), unfolding(crate::specs::Digits::byte_at))]
 fn byte_at(line: &[u8], i: usize) -> u8
     requires { record { inside : 2 * i + 1 < length line.now; digits : all_digits line.now ≡ true } }
     ensures { result ≡ byte_at line.now i }
@@ -56,6 +57,7 @@ pub fn bytes_in<const N: usize>(line: &[u8]) -> [u8; N]
 }
 
 // The number of a frame.
+#[tactic(auto, using(crate::proofs::Characters::digit_at))]
 pub fn frame_in(line: &[u8]) -> u32
     requires { Digits 3 line.now }
     ensures { result ≡ frame_in line.now }

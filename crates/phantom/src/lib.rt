@@ -13,6 +13,7 @@ ghost use Rattle.phantom.specs.Phantom.{two_closed, is_phantom, any_two_closed, 
 
 // Two or more rows are closed: one is still there when the lowest is taken away. Of no rows none is left, whatever the number before 0.
 // Ones are not counted, as in frames.
+#[tactic(auto, using(crate::proofs::Lowest::another_two))]
 fn two_closed(rows: u8) -> bool
     ensures { result ≡ two_closed rows }
 {

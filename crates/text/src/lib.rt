@@ -56,6 +56,7 @@ fn first_newline(text: &[u8]) -> Option<usize>
 }
 
 // The line at a place ends after n characters.
+#[tactic(auto, using(crate::proofs::Newlines::ends_past, crate::proofs::Newlines::ends_not, crate::proofs::Newlines::ends_newline))]
 fn ends_after(text: &[u8], at: usize, n: usize) -> bool
     requires { at ≤ length text.now }
     ensures { result ≡ ends_after text.now at n }
@@ -71,6 +72,7 @@ const LENGTHS: [usize; 4] = [0, 36, 3, 288];
 
 // The first newline from a place on, or the end of the text. The lengths that lines have are tried first: other lines are searched
 // character by character.
+#[tactic(auto, using(crate::proofs::Newlines::ends_there, crate::proofs::Newlines::found_at, std::proofs::lemmas::Slice::between_to_end))]
 pub fn end_of(text: &[u8], at: usize) -> usize
     requires { at ≤ length text.now }
     ensures { result ≡ line_end text.now at }
