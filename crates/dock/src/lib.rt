@@ -1,5 +1,5 @@
-// The dock (docs/RULES.md): why a call is refused, what a read gives, and how every accepted call ends. What each call does is said in specs/,
-// and done in place by `scan`, `swap` and `wire`. A refused call leaves the record as it was.
+// The dock (docs/RULES.md): why a call is refused, what a read gives, and how every accepted call ends. What each call does is said in
+// specs/, and done in place by `scan`, `swap` and `wire`. A refused call leaves the record as it was.
 #![tactic(auto)]
 
 ghost use Rattle.std.specs.Prelude.{◌≡◌};
