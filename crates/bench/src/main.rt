@@ -25,7 +25,8 @@ struct Bench {
 }
 
 // Runs the whole lines of a text, and gives how many characters were used, and how many are to be printed. Each line takes at least its
-// newline and prints at most four characters, so the output has room.
+// newline and prints at most four characters, so the output has room. A `while` and no `split`: `text::end_of` finds where a line ends,
+// trying the usual lengths first, and a last part without newline is no line.
 #[tactic(auto, using(text::proofs::Newlines::line_end_within))]
 fn run(dock: &mut Dock, text: &[u8], out: &mut [u8; 65536]) -> (usize, usize)
     requires { record { range : in_range dock.old ≡ true; short : length text.now ≤ 16384 } }
@@ -82,6 +83,7 @@ impl Bench {
     }
 }
 
+// Turns follow each other until nothing more comes, or nothing can be written.
 #[tactic(auto, using(range::proofs::PowerOn::power_on_in_range))]
 fn main(rt: HostRuntime) {
     let mut bench = Bench {

@@ -1,4 +1,5 @@
 // A key goes down or comes up (docs/RULES.md, sections 5 and 6), on a lent dock.
+// `Ready` is asked for and no invariant of the record, because `calls` takes any record at all.
 #![tactic(auto)]
 
 ghost use Rattle.std.specs.Prelude.{◌≡◌, true, ◌≤◌, ◌<◌, get_or};
@@ -45,7 +46,7 @@ fn release(dock: &mut Dock, kind: u8, key: u8)
     let_go(dock, key);
 }
 
-// The contact of a key turned, to closed (1) or to open (0).
+// The contact of a key turned, to closed (1) or to open (0): a number and no bool, as `moved` takes it and `contact` gives it.
 fn contact_turned(dock: &mut Dock, key: u8, closed: u8)
     requires { record { ready : Ready dock.old; number : key ≤ last_key } }
     ensures { dock.new

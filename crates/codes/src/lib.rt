@@ -35,7 +35,7 @@ pub enum Form {
     Other,
 }
 
-// The bytes of one action, 8 at most: the first `length` of `bytes`.
+// The bytes of one action, 8 at most: the first `length` of `bytes`. An array and a length, since there is no heap.
 #[derive(Clone, Copy)]
 pub struct Sequence {
     pub bytes: [u8; 8],

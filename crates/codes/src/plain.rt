@@ -9,7 +9,7 @@ use crate::rows::{has_code, may_repeat, sends_release};
 use crate::{Action, Sequence};
 use keys::code;
 
-// The make of a code and no more.
+// The make of a code and no more, by / and %, as the definitions have it.
 #[tactic(auto, unfolding(crate::specs::Sequences::holding, crate::specs::Codes::make_of, crate::specs::Codes::prefix))]
 fn make_of(code: u16) -> Sequence
     ensures { result ≡ holding (make_of code) }

@@ -56,6 +56,7 @@ fn stirred(counts: &mut Counts, column: usize, seen: u8, closed: u8) -> u8
 {
     let first = 8 * column;
     let mut turned = 0;
+    // By index: what is written through `iter_mut` of a part of an array is not known to the proof afterwards.
     for r in 0..8 {
         let otherwise = (seen ^ closed) & (1 << r);
         let count = counts[first + r];
@@ -84,8 +85,8 @@ pub fn at_rest(closed: &Columns, counts: &Counts, scan: &Columns) -> bool
     shows(closed, scan) && all_up_to(0, counts)
 }
 
-// The contacts after a counted scan, in place. Both arrays are lent as the record has them: they travel together in these two alone, and definitions
-// name the record's fields.
+// The contacts after a counted scan, in place. Both arrays are lent as the record has them: they travel together in these two alone, and
+// definitions name the record's fields.
 pub fn count(closed: &mut Columns, counts: &mut Counts, scan: &Columns)
     ensures { contacts closed.new counts.new ≡ counted_of (contacts closed.old counts.old) scan.now }
 {

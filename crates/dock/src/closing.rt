@@ -1,4 +1,5 @@
-// How every accepted call ends: an open handover goes on.
+// How every accepted call ends: an open handover goes on. The range is asked for and no invariant of the record, because `calls` takes any
+// record at all.
 ghost use Rattle.std.specs.Prelude.{◌≡◌, true};
 ghost use Rattle.range.specs.Range.{good_rest};
 ghost use Rattle.dock.specs.Closing.{closing};

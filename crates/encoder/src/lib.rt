@@ -32,7 +32,7 @@ fn is_allowed(set: u32, key: u32, event: u32, kind: u32, modifiers: u32, lock: u
         && lock <= 1
 }
 
-// The action that an event's number asks for.
+// The action that an event's number asks for. No TryFrom: what is over 2 is refused with the other numbers, so this cannot fail.
 fn action_of(event: u32) -> Action
     ensures { result ≡ action_of event }
 {

@@ -8,7 +8,7 @@ ghost use Rattle.codes.specs.Modifiers.{shift_held, control_held, alt_held};
 use codes::Form;
 use keys::{FIRST_CURSOR, KEYPAD_SLASH, LAST_CURSOR, PAUSE, PRINT};
 
-// A SHIFT is held.
+// A SHIFT is held. Three tests with a name each: one for all would take a number in the place of the name.
 fn shift_held(modifiers: u8) -> bool
     ensures { result ≡ shift_held modifiers }
 {

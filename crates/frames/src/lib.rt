@@ -14,8 +14,8 @@ pub enum FrameError {
     TooLarge,
 }
 
-// The bit that makes the number of ones of the byte and itself odd. Ones are not counted, by the library's method, since a small core has no
-// instruction for that: the byte is folded onto itself, and each time two ones that meet cancel out, until one bit is left.
+// The bit that makes the number of ones of the byte and itself odd. Ones are not counted, by the library's method, since a small core has
+// no instruction for that: the byte is folded onto itself, and each time two ones that meet cancel out, until one bit is left.
 fn parity_of(byte: u8) -> u16
     ensures { result ≡ parity byte }
 {

@@ -1,4 +1,5 @@
 // The keys of a panel that was taken away are released, the lowest first, each as soon as its release fits (docs/RULES.md, section 8).
+// `Ready` is asked for and no invariant of the record, because `calls` takes any record at all.
 #![tactic(auto)]
 
 ghost use Rattle.std.specs.Prelude.{◌≡◌, true, ◌<◌};
@@ -27,7 +28,8 @@ fn release_with(dock: &mut Dock, key: u8, sequence: Sequence)
     let_go(dock, key);
 }
 
-// A handover goes on as far as the queue has room, and is open as long as it has not come to its end.
+// A handover goes on as far as the queue has room, and is open as long as it has not come to its end. By number and not over the flags:
+// places 0 and 126 to 143 are no key's.
 pub fn hand_over(dock: &mut Dock)
     requires { Ready dock.old }
     ensures { dock.new

@@ -1,5 +1,6 @@
 // The C interface without a dock (include/keydock.h): frames, a key's codes and the reader on numbers and bytes alone.
-// Nothing is decided here. Each function asks the part that knows and turns its answer into one number. C calls them by way of keydock_c.
+// Nothing is decided here. Each function asks the part that knows and turns its answer into one number, in which 0 is
+// none, as include/keydock.h has it. What a function is asked stands one by one, as C passes it. C calls them by way of keydock_c.
 #![tactic(auto)]
 
 ghost use Rattle.std.specs.Prelude.{◌≡◌};

@@ -1,4 +1,5 @@
 // The key that repeats.
+// `Ready` is asked for and no invariant of the record, because `calls` takes any record at all.
 ghost use Rattle.std.specs.Prelude.{◌≡◌, ◌≤◌};
 ghost use Rattle.record.specs.Views.{keys_of};
 ghost use Rattle.record.specs.Parts.{with_keys};

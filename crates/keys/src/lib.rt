@@ -196,7 +196,8 @@ fn code_at(rows: &[[u16; 3]; LAST_KEY as usize], set: u8, key: u8) -> u16
     }
 }
 
-// The code of a key: the one place where an action looks into the table.
+// The code of a key: the one place where an action looks into the table. 0 for none and no Option: `code_in` gives it, and `encode` goes
+// on with it for a number that is no key.
 #[tactic(auto, unfolding(crate::specs::Keys::laid_out, crate::specs::Keys::rows))]
 pub fn code(set: u8, key: u8) -> u16
     ensures { result ≡ code_in set key }

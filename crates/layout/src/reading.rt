@@ -63,8 +63,8 @@ pub fn record_in(lent: &[u8; SIZE]) -> Dock
     }
 }
 
-// The bytes, if they are a record in its range. They are given back, and not the `Option` of a `Dock`: that would be copied three times, and a
-// read of nothing by C would take 1010 instructions in place of 708.
+// The bytes, if they are a record in its range. They are given back, and not the `Option` of a `Dock`: that would be copied three times,
+// and a read of nothing by C would take 1010 instructions in place of 708.
 pub fn as_record(lent: &[u8]) -> Option<&[u8; SIZE]>
     ensures { MatchOption result (is_record lent.now ≡ false) (λ bytes. (is_record lent.now ≡ true) × (bytes.now ≡ lent.now)) }
 {

@@ -29,7 +29,8 @@ fn small_of(rest: &Rest) -> [u8; 14]
     ]
 }
 
-// The record's bytes over as many others. Inlined, since the compiler then sees that the two lie apart: else it asks the C library for memmove.
+// The record's bytes over as many others. Inlined, since the compiler then sees that the two lie apart: else it asks the C library for
+// memmove.
 #[inline(always)]
 pub fn put_record(lent: &mut [u8], dock: &Dock)
     requires { record { size : length lent.old ≡ size; short : dock.now.rest.outgoing.queue.length ≤ 16 } }

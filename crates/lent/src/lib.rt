@@ -52,7 +52,7 @@ pub fn keydock_power_on(lent: &mut [u8]) -> i32
     0
 }
 
-// A scan of the panel.
+// A scan of the panel. This and the next three are written out: a function that is handed the call to make would need a contract over it.
 pub fn keydock_scan(lent: &mut [u8], scan: &[u8]) -> i32
     ensures answer { result ≡ number_for (Scan scan.now) lent.old }
     ensures bytes { lent.new ≡ bytes_after (Scan scan.now) lent.old }

@@ -1,5 +1,5 @@
-// The dock's calls on a record that is lent as bytes, as C makes them (docs/RULES.md, section 14; include/keydock.h), each function under its own name.
-// Nothing is decided here.
+// The dock's calls on a record that is lent as bytes, as C makes them (docs/RULES.md, section 14; include/keydock.h), each function under
+// its own name. Nothing is decided here.
 #![tactic(auto)]
 
 ghost use Rattle.std.specs.Prelude.{◌≡◌};

@@ -11,7 +11,10 @@ use printing::{Printed, answer_prints, read_prints};
 use record::Dock;
 use text::Kind;
 
-// One line, without its newline, on a lent dock in its range.
+// The number that a malformed line is refused with.
+const MALFORMED: u8 = 8;
+
+// One line, without its newline, on a lent dock in its range: asked for and no invariant, because `step` takes any dock at all.
 #[tactic(auto, using(range::proofs::Ranges::in_range_rest, text::proofs::Lengths::frame_is, text::proofs::Lengths::scan_is, text::proofs::Lengths::map_is, dock::proofs::Framing::frame_taken, dock::proofs::Reading::read_done), unfolding(crate::specs::Steps::step_of))]
 pub fn step_in_place(dock: &mut Dock, line: &[u8]) -> Printed
     requires { in_range dock.old ≡ true }
@@ -22,7 +25,7 @@ pub fn step_in_place(dock: &mut Dock, line: &[u8]) -> Printed
         Kind::Frame => answer_prints(wire::frame::frame_in_place(dock, digits::frame_in(line))),
         Kind::Scan => answer_prints(scan::scan_in_place(dock, &digits::bytes_in::<18>(line))),
         Kind::Map => answer_prints(swap::swap_in_place(dock, &digits::bytes_in::<144>(line))),
-        Kind::Malformed => Err(8),
+        Kind::Malformed => Err(MALFORMED),
     }
 }
 

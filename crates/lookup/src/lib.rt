@@ -34,7 +34,7 @@ pub trait Prefixed: Set {
         ensures { result ≡ found (key_with Self.number (0xe000 + byte)) };
 }
 
-// The three sets.
+// Set 1.
 pub struct Set1;
 
 #[tactic(auto, using(crate::proofs::Entries::alone_in_set1))]
@@ -53,6 +53,7 @@ impl Prefixed for Set1 {
     }
 }
 
+// Set 2.
 pub struct Set2;
 
 #[tactic(auto, using(crate::proofs::Entries::alone_in_set2))]
@@ -71,6 +72,7 @@ impl Prefixed for Set2 {
     }
 }
 
+// Set 3.
 pub struct Set3;
 
 #[tactic(auto, using(crate::proofs::Entries::alone_in_set3))]

@@ -1,5 +1,5 @@
-// The key of each code byte, 0 for none: byte 0 stands first, and what a table has no place for has no key. The proof computes every entry
-// from the key table, so a wrong one is refused.
+// The key of each code byte, 0 for none (an Option would take two bytes for each): byte 0 stands first, and what a table has no place for
+// has no key. The proof computes every entry from the key table, so a wrong one is refused.
 
 // Of bytes sent alone in set 1.
 pub static ALONE_IN_SET1: [u8; 89] = [

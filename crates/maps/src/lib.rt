@@ -6,7 +6,8 @@ ghost use Rattle.basics.specs.Lists.{all_up_to};
 ghost use Rattle.keys.specs.Keys.{last_key};
 ghost use Rattle.maps.specs.Maps.{has_double};
 
-// Some key stands twice. A key is its own mark among those seen, so that 0 needs no test.
+// Some key stands twice. The loop runs to its end, since a map seldom has one. A key is its own mark among those seen, so that 0 needs no
+// test.
 pub fn has_double(map: &[u8; 144]) -> bool
     requires { all_up_to last_key map.now ≡ true }
     ensures { result ≡ has_double map.now }

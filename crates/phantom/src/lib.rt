@@ -42,7 +42,7 @@ fn padded(scan: &[u8; 18]) -> [u8; 36]
 }
 
 // One of sixteen columns shares two rows with the one at a distance behind it. An early exit would part the pairs that are taken
-// together.
+// together. By index, since each place is paired with another of the same array.
 fn shares_at(columns: &[u8; 36], distance: usize) -> bool
     requires { distance ≤ 18 }
     ensures { result ≡ shares_at 16 distance columns.now }

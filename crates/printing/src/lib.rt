@@ -6,8 +6,8 @@ ghost use Rattle.printing.specs.Printing.{answer_prints, read_prints, characters
 
 use dock::{Given, Refusal};
 
-// What a line prints: nothing, or the frame that a read gave, 0 if it gave none; of a refused one ! and its number. That may be any byte, and not
-// only the number of a `Refusal`: the 8 of a malformed line is none, and `put` takes them all.
+// What a line prints: nothing, or the frame that a read gave, 0 if it gave none; of a refused one ! and its number. That may be any byte,
+// and not only the number of a `Refusal`: the 8 of a malformed line is none, and `put` takes them all.
 pub type Printed = Result<Option<u16>, u8>;
 
 // What an answer prints.
@@ -29,7 +29,8 @@ pub fn read_prints(given: Result<Option<Given>, Refusal>) -> Printed
     Ok(Some(frame))
 }
 
-// Puts what a line prints at a place of the output, and gives the place behind it.
+// Puts what a line prints at a place of the output, and gives the place behind it. Digit by digit, and not by `write!`: a line's characters
+// are promised here place by place, and a scan's line prints none.
 pub fn put(out: &mut [u8], at: usize, printed: Printed) -> usize
     requires { at + 4 ≤ length out.old }
     ensures { (result ≡ at + length (characters printed)) × (out.new ≡ written_at at (characters printed) out.old) }

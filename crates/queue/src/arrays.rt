@@ -2,6 +2,8 @@
 ghost use Rattle.std.specs.Prelude.{◌≡◌, [], ◌∷◌, ◌++◌, ◌≤◌, drop};
 ghost use Rattle.queue.specs.Queues.{tidy_array};
 
+// Array and number are asked apart: a queue has the number as a usize, the replies as a byte.
+
 // So many bytes wait, no more than there are places, and zeros stand behind them. The loop keeps a flag and runs to its end, so that the
 // compiler takes all places at a time.
 pub fn is_tidy_array<const PLACES: usize>(bytes: &[u8; PLACES], count: usize) -> bool

@@ -9,7 +9,8 @@ use codes::Sequence;
 
 pub mod arrays; // arrays.rt: bytes at the front of an array, of any size
 
-// The first `length` of `bytes` wait, the oldest in front; zeros stand behind them.
+// The first `length` of `bytes` wait, the oldest in front; zeros stand behind them. An array and a length, since there is no heap. That
+// it is tidy is asked for and no invariant: a record that is lent may have any bytes here, and `is_tidy` looks at them.
 #[derive(Clone, Copy)]
 pub struct Queue {
     pub bytes: [u8; 16],

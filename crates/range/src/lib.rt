@@ -1,10 +1,11 @@
-// Is every part of a record in its range (docs/RECORD.md). The tests are joined by `&` and `|`, so that there is one way through.
+// Is every part of a record in its range (docs/RECORD.md). The tests are joined by `&` and `|`, so that the
+// compiler makes no branch of each.
 #![tactic(auto)]
 
 ghost use Rattle.std.specs.Prelude.{◌≡◌};
 ghost use Rattle.range.specs.Range.{good_mode, good_outgoing, good_rest, takes_value, in_range};
 
-pub use basics::all_up_to;
+pub use basics::all_up_to; // passed on: docs/PROMISES.md has it by this name
 use hostbytes::{CHOOSE_SET, INDICATORS, KEY_TYPE, LAST_KEY_TYPE, RATE};
 use record::{Dock, Mode, Outgoing, Rest};
 

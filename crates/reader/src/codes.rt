@@ -1,4 +1,4 @@
-// What a code of set 1 or 2 says: the two have the same codes but for a few bytes, and tables of their own.
+// What a code of set 1 or 2 says: the two are read alike, but for four bytes and the tables of their keys.
 ghost use Rattle.std.specs.Prelude.{◌≡◌, ◌+◌};
 ghost use Rattle.keys.specs.Keys.{code_in, alt_print, left_wrap, right_wrap};
 ghost use Rattle.keys.specs.Named.{pause_key};

@@ -103,8 +103,8 @@ fn read_byte<S: Sequences>(state: u32, byte: u8) -> Answer
     S::read(state, byte)
 }
 
-// The reader: set 1 to 3, state 0 to 14 (0 to begin with, then what the answer before gave), and a byte. The set is a number here, as it
-// is in the record and for C, and is looked at once.
+// The reader: set 1 to 3, state 0 to 14 (0 to begin with, then what the answer before gave), and a byte. The set and the state are
+// numbers here, as they are for C, which keeps the state between bytes; the set is looked at once.
 #[tactic(auto, unfolding(crate::specs::Reader::answer_of, crate::specs::Reader::answer_said))]
 pub fn read(set: u32, state: u32, byte: u8) -> Result<Answer, ReadError>
     ensures { Answers answer_says result (answer_of set state byte) (answer_said set state byte) }

@@ -1,4 +1,6 @@
-// The flags of the held keys, by key number. Nothing else reads or sets one.
+// The flags of the held keys, by key number. Nothing else reads or sets one. Functions and no methods: `Held` is an array, as the record is
+// laid out. A key is a byte below 144 and no type of its own: keys come out of the map, the types and loops as bytes, and every
+// definition takes the number.
 ghost use Rattle.std.specs.Prelude.{◌≡◌, ◌<◌};
 ghost use Rattle.basics.specs.Choice.{pick};
 ghost use Rattle.record.specs.Held.{held_at, key_down, key_up};

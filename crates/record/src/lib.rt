@@ -1,5 +1,6 @@
-// The dock's record (docs/RULES.md, sections 5 to 8 and 11; docs/RECORD.md lists the range of every part), as the calls lend it: five
-// arrays, and the rest by value.
+// The dock's record (docs/RULES.md, sections 5 to 8 and 11; docs/RECORD.md lists the range of every part): five arrays, and the rest. A key
+// or a command with 0 for none stays a number, and a held key's flag a byte, since C lends the record as bytes: flags, types and counts may
+// be any byte, and are put back as they were lent.
 #![tactic(auto)]
 
 use contacts::{Columns, Counts};
@@ -46,7 +47,8 @@ pub struct Rest {
     pub given: u8, // the last byte given that was not FE; FE before there is one
 }
 
-// All that the dock knows.
+// All that the dock knows. Arrays side by side and no struct for each key or position: so the bytes lie as C lends them, and a loop takes
+// sixteen at a time.
 #[derive(Clone, Copy)]
 pub struct Dock {
     pub map: Map, // the key at each position, 0 for none

@@ -67,6 +67,7 @@ pub fn power_on() -> Dock
         types,
         rest,
     };
+    // By index: what is written through `iter_mut` of a part of an array is not known to the proof afterwards.
     for position in 0..PLAIN_KEYS {
         dock.map[position] = (position + 1) as u8;
     }

@@ -6,7 +6,8 @@ ghost use Rattle.replies.specs.Replies.{waiting_replies, replies_of, tidy_replie
 
 use queue::arrays::{is_tidy_array, moved_up};
 
-// The first `length` of `bytes` wait, the oldest in front, and zeros stand behind them.
+// The first `length` of `bytes` wait, the oldest in front, and zeros stand behind them. A type of its own beside Queue: the record has its
+// length as a byte, and the promises (`replies_of`, `queue_of`) name both.
 #[derive(Clone, Copy)]
 pub struct Replies {
     pub bytes: [u8; 3],

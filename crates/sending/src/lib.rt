@@ -101,7 +101,7 @@ fn shortest_release(set: u8) -> usize
 
 // What a press sends is queued. A full queue takes nothing: there the mark is put without asking what is sent, unless it is nothing, since
 // the key has no code. The flags, the queue and the mode are lent one by one, and not the dock: tried, and neither the clause nor the
-// proof is shorter.
+// proof is shorter. Mode, type and key stand one by one, as `sends_with` takes them.
 pub fn send_press(held: &Held, queue: &mut Queue, mode: Mode, kind: u8, key: u8)
     requires { tidy queue.old ≡ true }
     ensures { queue.new ≡ queued_of queue.old mode (sends_with held.now mode kind key Press) }

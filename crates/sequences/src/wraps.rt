@@ -32,7 +32,8 @@ pub(crate) fn with_before(sequence: Sequence, set: u8, form: Form) -> Sequence
     }
 }
 
-// What a form sends after a break: the same undone, last first. It stays a match of its own: in one for both, each arm would ask which it is.
+// What a form sends after a break: the same undone, last first. It stays a match of its own: in one for both, each arm would ask which it
+// is.
 #[tactic(auto, using(codes::proofs::Rules::joins), unfolding(codes::specs::Codes::after, codes::specs::Sequences::adding))]
 pub(crate) fn with_after(sequence: Sequence, set: u8, form: Form) -> Sequence
     requires { sequence.length ≤ 4 }

@@ -1,4 +1,5 @@
-// Another panel, in place (docs/RULES.md, section 8): the record is lent, and in its range.
+// Another panel, in place (docs/RULES.md, section 8): the record is lent, and in its range. The range is asked for and no
+// invariant of the record, because `calls` takes any record at all.
 #![tactic(auto)]
 
 ghost use Rattle.std.specs.Prelude.{◌≡◌, true};

@@ -7,7 +7,7 @@ ghost use Rattle.text.specs.Lines.{kind_of, newline_among, ends_after, line_end}
 
 use digits::all_digits;
 
-// What a line can be.
+// What a line can be. A malformed one is a kind like the others: it has an answer of its own, and is not nothing.
 #[derive(Clone, Copy)]
 pub enum Kind {
     // Nothing in it.
@@ -70,8 +70,8 @@ fn ends_after(text: &[u8], at: usize, n: usize) -> bool
 // The lengths that lines have. 0 comes first, since a read has nothing before its newline, and then 36, since most lines are scans.
 const LENGTHS: [usize; 4] = [0, 36, 3, 288];
 
-// The first newline from a place on, or the end of the text. The lengths that lines have are tried first: other lines are searched
-// character by character.
+// The first newline from a place on, or the end of the text, asked by the text and a place, as `line_end` has them. The lengths that lines
+// have are tried first: other lines are searched character by character.
 #[tactic(auto, using(crate::proofs::Newlines::ends_there, crate::proofs::Newlines::found_at, std::proofs::lemmas::Slice::between_to_end))]
 pub fn end_of(text: &[u8], at: usize) -> usize
     requires { at ≤ length text.now }
