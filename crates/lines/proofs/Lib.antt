@@ -1,3 +1,4 @@
 pub mod InRange
 pub mod Refusals
 pub mod Saying
+pub mod Once

@@ -5,3 +5,4 @@ pub mod Range
 pub mod Checking
 pub mod Pushing
 pub mod Popping
+pub mod Once
