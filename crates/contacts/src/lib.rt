@@ -48,7 +48,9 @@ fn still(counts: &mut Counts, column: usize)
 }
 
 // A column that shows something else, contact by contact: the column as it then counts. Rows are left at their bits, so that the
-// compiler takes all eight at a time.
+// compiler takes all eight at a time. It is never inlined: among the steps of its caller the compiler takes the bits out one by one
+// (1162 instructions, not 750, for a scan that changes 41 contacts).
+#[inline(never)]
 fn stirred(counts: &mut Counts, column: usize, seen: u8, closed: u8) -> u8
     requires { column < 18 }
     ensures contacts { result ≡ column_closed column seen closed counts.old }

@@ -1,6 +1,6 @@
 -- Pairs of columns by their distance: the columns with open ones behind them, and what each turn of the searches finds out.
 -- Assumes nothing.
-use Rattle.std.proofs.Common.{◌≡◌, ℕ, zero, suc, ◌+◌, ◌≤◌, Bool, true, false, ◌||◌, List, get_or, refl, ap, ◌∙◌, le_antisymm, add-one, arith}
+use Rattle.std.proofs.Common.{◌≡◌, ℕ, zero, suc, ◌+◌, ◌≤◌, Bool, true, false, ◌||◌, List, get_or, refl, sym, ap, ◌∙◌, le_antisymm, add-one, arith}
 use Rattle.basics.specs.Choice.{either}
 use Rattle.phantom.specs.Phantom.{shares, shares_at}
 
@@ -8,6 +8,15 @@ use Rattle.phantom.specs.Phantom.{shares, shares_at}
 raised : (flag test : Bool) → (flag || test) ≡ either flag test
 raised true test = refl
 raised false test = refl
+
+-- The flag after a turn in which an `if` may raise it.
+pub raised_then : (flag test r : Bool) → test ≡ true → r ≡ true → r ≡ (flag || test)
+raised_then true test r t e = e
+raised_then false test r t e = e ∙ sym t
+
+pub raised_else : (flag test r : Bool) → test ≡ false → r ≡ flag → r ≡ (flag || test)
+raised_else true test r t e = e
+raised_else false test r t e = e ∙ sym t
 
 -- One more pair of a distance.
 pub pair_more : (d : ℕ) (l : List ℕ) (j : ℕ) (any : Bool) → any ≡ shares_at j d l

@@ -21,13 +21,16 @@ fn two_closed(rows: u8) -> bool
     rows & before != 0
 }
 
-// Some column has two or more closed rows. An early exit, as `any` has it, would take the columns one by one.
+// Some column has two or more closed rows. An early exit, as `any` has it, would take the columns one by one. Here and below an `if`
+// raises the flag: where tests are or-ed, the compiler counts ones (368 instructions, not 185, for a scan that has every pair to look at).
 fn any_two_closed(scan: &[u8; 18]) -> bool
     ensures { result ≡ any_two_closed scan.now }
 {
     let mut any = false;
     for rows in scan {
-        any |= two_closed(*rows);
+        if two_closed(*rows) {
+            any = true;
+        }
     }
     any
 }
@@ -49,7 +52,9 @@ fn shares_at(columns: &[u8; 36], distance: usize) -> bool
 {
     let mut shared = false;
     for j in 0..16 {
-        shared |= two_closed(columns[j] & columns[j + distance]);
+        if two_closed(columns[j] & columns[j + distance]) {
+            shared = true;
+        }
     }
     shared
 }
