@@ -57,19 +57,18 @@ pub fn fresh_rest(replies: Replies) -> Rest
 pub fn power_on() -> Dock
     ensures { result ≡ power_on }
 {
-    let types = default_types();
-    let rest = fresh_rest(Replies::of([hostbytes::AWAKE]));
-    let mut dock = Dock {
-        map: [0; 144],
+    let mut map = [0; 144];
+    // By index: what is written through `iter_mut` of a part of an array is not known to the proof afterwards.
+    for position in 0..PLAIN_KEYS {
+        map[position] = (position + 1) as u8;
+    }
+    // Put together at the end: a record that is made first and changed then lies twice on the stack.
+    Dock {
+        map,
         closed: [0; 18],
         counts: [0; 144],
         held: [0; 144],
-        types,
-        rest,
-    };
-    // By index: what is written through `iter_mut` of a part of an array is not known to the proof afterwards.
-    for position in 0..PLAIN_KEYS {
-        dock.map[position] = (position + 1) as u8;
+        types: default_types(),
+        rest: fresh_rest(Replies::of([hostbytes::AWAKE])),
     }
-    dock
 }

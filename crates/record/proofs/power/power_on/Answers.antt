@@ -10,4 +10,4 @@ loop-position-preserved c = filled_more _ _ _ c.loop-position.invariant
 
 pub returns : goal.returns
 returns c =
-    filled_power_on _ c.loop-position.position _ _ _ c.loop-position.invariant (omega arith) c.default_types-types.ensures c.fresh_rest-rest.ensures c.of.ensures
+    filled_power_on _ c.loop-position.position _ _ _ c.loop-position.invariant (omega arith) c.default_types.ensures c.fresh_rest.ensures c.of.ensures
