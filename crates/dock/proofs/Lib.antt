@@ -8,3 +8,4 @@ pub mod Arrays
 pub mod Refusals
 pub mod Saying
 pub mod Once
+pub mod Keeping

@@ -1,3 +1,4 @@
 pub mod Records
 pub mod Putting
 pub mod RoundTrip
+pub mod Fronts

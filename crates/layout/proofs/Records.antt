@@ -1,5 +1,5 @@
 -- What bytes give that are a record, and the tests by which the code finds it out. Assumes nothing.
-use mathlib.Core.Path.{◌≡◌, refl, sym, ap, ◌∙◌}
+use mathlib.Core.Path.{◌≡◌, refl}
 use mathlib.Core.Bool.{Bool, true, false, ◌&&◌, and_assoc}
 use mathlib.Core.List.{List, [], ◌∷◌}
 use Prim.Native.Nat.{ℕ, suc, ◌+◌, ◌≤◌}
@@ -39,15 +39,9 @@ another_size l n = rw (ne_eqb (length l) size n)
 
 -- The tests of all the bytes tell whether they are a record.
 module _ (l b : List ℕ) (whole : IsWholeChunk l b size) (map rest : Bool) (m : map ≡ all_up_to last_key (map_in b)) (r : rest ≡ good_rest (rest_in b)) where
-  joined_record : (leb (small 10 b) 1 && leb (small 12 b) 1 && map && rest) ≡ is_record l
+  pub joined_record : (leb (small 10 b) 1 && leb (small 12 b) 1 && map && rest) ≡ is_record l
   unfolding is_record in_range
   joined_record = rw (eq-eqb (length l) size whole.long, m, r, whole.same) (simp and_assoc)
-
-  pub tested_record : (leb (small 10 b) 1 && leb (small 12 b) 1 && map && rest) ≡ true → (is_record l ≡ true) × (b ≡ l)
-  tested_record t = (sym joined_record ∙ t, whole.same)
-
-  pub tested_none : (leb (small 10 b) 1 && leb (small 12 b) 1 && map && rest) ≡ false → is_record l ≡ false
-  tested_none f = sym joined_record ∙ f
 
 -- The replies are three of the small parts.
 pub three_replies : (l : List ℕ) → length l ≡ size → part (small_at + 6) 3 l ≡ small 6 l ∷ small 7 l ∷ small 8 l ∷ []

@@ -30,8 +30,12 @@ pub const INDICATORS: usize = RATE + 1;
 
 pub const FIRST_REPLY: usize = INDICATORS + 1;
 
+pub const SECOND_REPLY: usize = FIRST_REPLY + 1;
+
+pub const THIRD_REPLY: usize = SECOND_REPLY + 1;
+
 // How many of the replies wait.
-pub const REPLIES: usize = FIRST_REPLY + 3;
+pub const REPLIES: usize = THIRD_REPLY + 1;
 
 pub const SCANNING: usize = REPLIES + 1;
 

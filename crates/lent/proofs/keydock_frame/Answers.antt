@@ -1,34 +1,21 @@
--- `keydock_frame` meets its contract: the frame is taken on a copy of the record, and that is put back. Assumes nothing.
-use mathlib.Core.Path.{◌≡◌, ap, ◌∙◌}
+-- `keydock_frame` meets its contract: of a record the frame is taken, and nothing else. Assumes nothing.
+use mathlib.Core.Path.{◌≡◌, sym, ap, ◌∙◌}
 use mathlib.Core.Bool.{false}
-use borrow.Author.Rules.{rules}
-use mir.Syntax.{w32}
-use mir.Val.{to_z, of_z}
-use Rattle.range.proofs.Ranges.{in_range_rest}
 use Rattle.dock.specs.Calls.{Frame}
-use Rattle.dock.proofs.Framing.{frame_taken}
 use Rattle.layout.specs.Layout.{is_record}
-use Rattle.lent.specs.Lent.{answered_done}
-use Rattle.lent.proofs.Lending.{found, found_in_range, refused_lent, room_after, called_lent}
+use Rattle.layout.proofs.Records.{another_size}
+use Rattle.lent.proofs.Lending.{refused_lent}
 use Rattle.lent.proofs.keydock_frame.Goals as goal
 
-pub returns-in_default : goal.returns-in_default
-returns-in_default c =
-    let none : is_record c.args.lent.now ≡ false = search rules in
-    refused_lent (Frame _) _ none
+pub frame_record-requires : goal.frame_record-requires
+frame_record-requires c = sym c.is_record.ensures ∙ c.if-is_record.true
 
-pub frame_in_place-answer-requires : goal.frame_in_place-answer-requires
-frame_in_place-answer-requires c = let here = found c.in-Some.ensures c.record_in-dock.ensures in in_range_rest _ (found_in_range here)
+pub returns-in-Some-2 : goal.returns-in-Some-2
+returns-in-Some-2 c =
+    let same = c.in-Some.ensures.cases.same in
+    let none : is_record c.args.lent.now ≡ false = ap is_record (sym same) ∙ sym c.is_record.ensures ∙ c.if-is_record.false in
+    let refused = refused_lent (Frame _) _ none in
+    record { answer = refused.answer; bytes = same ∙ refused.bytes }
 
-pub put_record-requires : goal.put_record-requires
-put_record-requires c =
-    let here = found c.in-Some.ensures c.record_in-dock.ensures in
-    room_after (Frame _) _ _ here _ (ap answered_done (c.frame_in_place-answer.ensures ∙ frame_taken _ _ (found_in_range here)))
-
-pub returns : goal.returns
-returns c =
-    let here = found c.in-Some.ensures c.record_in-dock.ensures in
-    let called = called_lent (Frame _) _ _ here _ (ap answered_done (c.frame_in_place-answer.ensures ∙ frame_taken _ _ (found_in_range here))) _ c.put_record.ensures in
-    let number = c.answer_number.result in
-    let fits : to_z w32 (of_z w32 number) ≡ number = search rules in
-    record { answer = fits ∙ c.answer_number.ensures ∙ called.answer; bytes = called.bytes }
+pub returns-in-None : goal.returns-in-None
+returns-in-None c = refused_lent (Frame _) _ (another_size _ c.in-None.ensures.cases)

@@ -1,32 +1,21 @@
--- `keydock_swap` meets its contract: the panel is swapped on a copy of the record, and that is put back. Assumes nothing.
-use mathlib.Core.Path.{◌≡◌, ap, ◌∙◌}
+-- `keydock_swap` meets its contract: of a record the panel is swapped, and nothing else. Assumes nothing.
+use mathlib.Core.Path.{◌≡◌, sym, ap, ◌∙◌}
 use mathlib.Core.Bool.{false}
-use borrow.Author.Rules.{rules}
-use mir.Syntax.{w32}
-use mir.Val.{to_z, of_z}
 use Rattle.dock.specs.Calls.{Swap}
 use Rattle.layout.specs.Layout.{is_record}
-use Rattle.lent.specs.Lent.{answered_done}
-use Rattle.lent.proofs.Lending.{found, found_in_range, refused_lent, room_after, called_lent}
+use Rattle.layout.proofs.Records.{another_size}
+use Rattle.lent.proofs.Lending.{refused_lent}
 use Rattle.lent.proofs.keydock_swap.Goals as goal
 
-pub returns-in_default : goal.returns-in_default
-returns-in_default c =
-    let none : is_record c.args.lent.now ≡ false = search rules in
-    refused_lent (Swap _) _ none
+pub swap_record-requires : goal.swap_record-requires
+swap_record-requires c = sym c.is_record.ensures ∙ c.if-is_record.true
 
-pub swap_in_place-answer-requires : goal.swap_in_place-answer-requires
-swap_in_place-answer-requires c = let here = found c.in-Some.ensures c.record_in-dock.ensures in found_in_range here
+pub returns-in-Some-2 : goal.returns-in-Some-2
+returns-in-Some-2 c =
+    let same = c.in-Some.ensures.cases.same in
+    let none : is_record c.args.lent.now ≡ false = ap is_record (sym same) ∙ sym c.is_record.ensures ∙ c.if-is_record.false in
+    let refused = refused_lent (Swap _) _ none in
+    record { answer = refused.answer; bytes = same ∙ refused.bytes }
 
-pub put_record-requires : goal.put_record-requires
-put_record-requires c =
-    let here = found c.in-Some.ensures c.record_in-dock.ensures in
-    room_after (Swap _) _ _ here _ (ap answered_done c.swap_in_place-answer.ensures)
-
-pub returns : goal.returns
-returns c =
-    let here = found c.in-Some.ensures c.record_in-dock.ensures in
-    let called = called_lent (Swap _) _ _ here _ (ap answered_done c.swap_in_place-answer.ensures) _ c.put_record.ensures in
-    let number = c.answer_number.result in
-    let fits : to_z w32 (of_z w32 number) ≡ number = search rules in
-    record { answer = fits ∙ c.answer_number.ensures ∙ called.answer; bytes = called.bytes }
+pub returns-in-None : goal.returns-in-None
+returns-in-None c = refused_lent (Swap _) _ (another_size _ c.in-None.ensures.cases)

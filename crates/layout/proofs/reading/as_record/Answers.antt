@@ -1,16 +1,16 @@
--- `reading::as_record` meets its contract: its tests are those of the definition. Assumes nothing.
-use mathlib.Core.Path.{ap, ◌∙◌}
-use Rattle.range.specs.Range.{good_rest}
-use Rattle.layout.proofs.Records.{another_size, tested_record, tested_none}
+-- `reading::as_record` meets its contract: the bytes are those that were looked at. Assumes nothing.
+use mathlib.Core.Path.{sym, ap, ◌∙◌}
+use Rattle.layout.specs.Layout.{is_record}
+use Rattle.layout.proofs.Records.{another_size}
 use Rattle.layout.proofs.reading.as_record.Goals as goal
 
 pub returns-in_err-bytes : goal.returns-in_err-bytes
 returns-in_err-bytes c = rw c.from_residual.ensures (another_size _ c.in_err-bytes.ensures.cases)
 
-pub returns-then-good : goal.returns-then-good
-returns-then-good c =
-    tested_record _ _ c.in_ok-bytes.ensures.cases _ _ c.all_up_to.ensures (c.is_good_rest.ensures ∙ ap good_rest c.rest_in.ensures) c.if-good.true
+pub returns-then-is_record : goal.returns-then-is_record
+returns-then-is_record c =
+    let same = c.in_ok-bytes.ensures.cases.same in
+    (ap is_record (sym same) ∙ sym c.is_record.ensures ∙ c.if-is_record.true, same)
 
-pub returns-else-good : goal.returns-else-good
-returns-else-good c =
-    tested_none _ _ c.in_ok-bytes.ensures.cases _ _ c.all_up_to.ensures (c.is_good_rest.ensures ∙ ap good_rest c.rest_in.ensures) c.if-good.false
+pub returns-else-is_record : goal.returns-else-is_record
+returns-else-is_record c = ap is_record (sym c.in_ok-bytes.ensures.cases.same) ∙ sym c.is_record.ensures ∙ c.if-is_record.false
