@@ -37,7 +37,7 @@ unfolding answer_of
 next_small set state byte b answer e = go (leb state 14) refl (leb 1 set) refl (leb set 3) refl e
   where
     go : (x : Bool) → leb state 14 ≡ x → (y : Bool) → leb 1 set ≡ y → (z : Bool) → leb set 3 ≡ z
-        → Ok answer ≡ pick x (pick (both y z) (Ok (read_byte set state byte)) (Err BadSet)) (Err BadState) → answer.state ≤ 14
+        → Ok answer ≡ pick x (pick (both y z) (Ok (read_byte set state byte)) (Err (BadSet state))) (Err (BadState state)) → answer.state ≤ 14
     go true p true q true r n =
         let same : answer ≡ read_byte set state byte = cc in
         rw same (next_is_a_state set state byte (leb-true 1 set q) (leb-true set 3 r) (leb-true state 14 p) b)

@@ -105,8 +105,8 @@ read_byte set state byte = pick (eqb byte (mark_of set)) (ends Overrun) (in_set 
 unfoldable pub answer_of : ℕ → ℕ → ℕ → Result Answer ReadError
 answer_of set state byte =
     pick (leb state 14)
-    (pick (between 1 3 set) (Ok (read_byte set state byte)) (Err BadSet))
-    (Err BadState)
+    (pick (between 1 3 set) (Ok (read_byte set state byte)) (Err (BadSet state)))
+    (Err (BadState state))
 
 -- What each event says (docs/RULES.md, section 9): the place of an event in the list of section 4, counted from 0, and its key.
 abbrev pub event_says : Event → Said
@@ -120,8 +120,8 @@ event_says Unknown = accepted (6 ∷ [])
 
 -- What each refusal says.
 abbrev pub error_says : ReadError → Said
-error_says BadState = refused 9
-error_says BadSet = refused 7
+error_says (BadState state) = refused 9
+error_says (BadSet state) = refused 7
 
 -- What an answer says is what its event says, or the refusal,
 abbrev pub answer_says : Result Answer ReadError → Said

@@ -46,13 +46,13 @@ impl Event {
     }
 }
 
-// Why a byte is refused. The state in which it came is then the caller's still.
+// Why a byte is refused, with the state in which it came: a refusal moves none.
 #[derive(Clone, Copy, PartialEq, Eq)]
 pub enum ReadError {
     // No such state.
-    BadState,
+    BadState(u32),
     // No such set.
-    BadSet,
+    BadSet(u32),
 }
 
 impl ReadError {
@@ -61,8 +61,8 @@ impl ReadError {
         ensures { result ≡ (error_says self).number }
     {
         match self {
-            ReadError::BadState => 9,
-            ReadError::BadSet => 7,
+            ReadError::BadState(_) => 9,
+            ReadError::BadSet(_) => 7,
         }
     }
 }
@@ -110,13 +110,13 @@ pub fn read(set: u32, state: u32, byte: u8) -> Result<Answer, ReadError>
     ensures { Answers answer_says result (answer_of set state byte) (answer_said set state byte) }
 {
     if 14 < state {
-        return Err(ReadError::BadState);
+        return Err(ReadError::BadState(state));
     }
     match set {
         1 => Ok(read_byte::<Set1>(state, byte)),
         2 => Ok(read_byte::<Set2>(state, byte)),
         3 => Ok(read_byte::<Set3>(state, byte)),
-        _ => Err(ReadError::BadSet),
+        _ => Err(ReadError::BadSet(state)),
     }
 }
 
