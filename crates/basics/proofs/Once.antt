@@ -1,10 +1,13 @@
 -- No promise leaves a second answer: a law for each shape that promises have. Others, of parts that are lent, stand with their words.
 -- Assumes nothing.
 use Prim.Native.Nat.{ℕ}
-use mathlib.Core.Path.{◌≡◌, sym, ap, ◌∙◌}
+use mathlib.Core.Path.{◌≡◌, refl, sym, ap, ◌∙◌}
+use mathlib.Core.Bool.{Bool, true, false}
 use mathlib.Core.List.{List}
 use lib.ListN.{length, get_or}
 use lib.Seq.{ext_get_or}
+use Rattle.std.specs.Prelude.{Option, Some, None, MatchOption}
+use Rattle.std.specs.Option.{option_map}
 use Rattle.basics.specs.Said.{Said, Answers}
 
 -- One equation with a definition.
@@ -24,3 +27,12 @@ answering {says = says} s e = record { answer = e; said = ap says e ∙ s }
 pub places_once : (stated first second : List ℕ) → length first ≡ length second
     → ((i : ℕ) → get_or first i 0 ≡ get_or stated i 0) → ((i : ℕ) → get_or second i 0 ≡ get_or stated i 0) → first ≡ second
 places_once stated first second e p q = ext_get_or 0 first second e (λ i h. one_answer (p i) (q i))
+
+-- What is found where a test says that it is there, by what it shows: both find it, or neither does.
+pub found_once : {A B : Type 0} (shows : A → B) (there : Bool) (stated : B) (first second : Option A)
+    → MatchOption first (there ≡ false) (λ found. (there ≡ true) × (shows found ≡ stated))
+    → MatchOption second (there ≡ false) (λ found. (there ≡ true) × (shows found ≡ stated)) → option_map shows first ≡ option_map shows second
+found_once shows there stated None None p q = refl
+found_once shows there stated (Some a) (Some b) p q = ap Some (one_answer p.1 q.1)
+found_once shows there stated None (Some b) p q = cc
+found_once shows there stated (Some a) None p q = cc
