@@ -48,10 +48,13 @@ pub const FIRST_MEDIA: u8 = 105;
 // Places for something of each key, by its number: place 0 is no key's.
 pub const PLACES: usize = LAST_KEY as usize + 1;
 
+// The codes of each key as an array, so that a row is one line.
+pub type Table = [[u16; 3]; LAST_KEY as usize];
+
 // Key 1 stands first: its codes in sets 1, 2 and 3. A code above 255 has the prefix E0: 0xe05b is sent as E0 5B. 0 is no code.
 // Sheet 004 has the codes; those of LWIN, RWIN and APP are in its table of new keys, those of the media keys in sheets 001 and 003.
 // A `static` is read where it lies; a `const` array would be laid out anew at each use.
-static KEYS: [[u16; 3]; LAST_KEY as usize] = [
+static KEYS: Table = [
     [0x29, 0x0e, 0x0e], // 1 `
     [0x02, 0x16, 0x16], // 2 1
     [0x03, 0x1e, 0x1e], // 3 2
@@ -181,7 +184,7 @@ static KEYS: [[u16; 3]; LAST_KEY as usize] = [
 
 // The code in a row of the table. A number that is no key has none.
 #[tactic(auto, using(crate::proofs::Laws::no_key, crate::proofs::Laws::past_the_keys, crate::proofs::Laws::at_its_place), unfolding(crate::specs::Keys::code_in))]
-fn code_at(rows: &[[u16; 3]; LAST_KEY as usize], set: u8, key: u8) -> u16
+fn code_at(rows: &Table, set: u8, key: u8) -> u16
     requires { rows.now ≡ laid_out }
     ensures { result ≡ code_in set key }
 {
