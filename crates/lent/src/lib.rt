@@ -85,6 +85,7 @@ pub fn keydock_scan(lent: &mut [u8], scan: &[u8]) -> i32
     }
 }
 
+// The same of a record, which is copied.
 fn scan_record(lent: &mut [u8; SIZE], scan: &[u8]) -> i32
     requires { is_record lent.old ≡ true }
     ensures answer { result ≡ number_for (Scan scan.now) lent.old }
@@ -108,6 +109,7 @@ pub fn keydock_swap(lent: &mut [u8], new: &[u8]) -> i32
     }
 }
 
+// The same of a record, which is copied.
 fn swap_record(lent: &mut [u8; SIZE], new: &[u8]) -> i32
     requires { is_record lent.old ≡ true }
     ensures answer { result ≡ number_for (Swap new.now) lent.old }
@@ -131,6 +133,7 @@ pub fn keydock_frame(lent: &mut [u8], number: u32) -> i32
     }
 }
 
+// The same of a record, which is copied.
 fn frame_record(lent: &mut [u8; SIZE], number: u32) -> i32
     requires { is_record lent.old ≡ true }
     ensures answer { result ≡ number_for (Frame number) lent.old }
@@ -154,6 +157,7 @@ pub fn keydock_read(lent: &mut [u8]) -> i32
     }
 }
 
+// The same of a record, of which these parts are copied.
 fn read_record(lent: &mut [u8; SIZE]) -> i32
     requires { is_record lent.old ≡ true }
     ensures answer { result ≡ number_for Read lent.old }
