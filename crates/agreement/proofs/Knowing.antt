@@ -15,6 +15,7 @@ use Rattle.dock.specs.Frame.{took_frame, frame_of}
 use Rattle.dock.specs.Read.{read_of}
 use Rattle.dock.specs.Scan.{scan_of}
 use Rattle.dock.specs.Swap.{swap_of}
+use Rattle.dock.proofs.Keeping.{took_leaves}
 use Rattle.frames.specs.declared.FrameError.{FrameError}
 use Rattle.frames.specs.declared.FrameError.TheVariants.{Broken, TooLarge}
 use Rattle.frames.specs.Frames.{unpacked_of}
@@ -79,15 +80,6 @@ module _ (d : Dock) (byte : ℕ) where
   took_waiting : (took_byte byte d).rest.waiting ≡ waiting_after byte d.rest.waiting
   unfolding took_byte commanded waiting_after valued
   took_waiting = grind (arith, waits_same, right_same)
-
-  took_map : (took_byte byte d).map ≡ d.map
-  unfolding commanded fresh_with
-  took_map =
-      let Same : Dock → Type 0 = λ (e : Dock). e.map ≡ d.map in
-      by_byte Same byte d (λ fe. refl)
-      (λ other high. by_command Same byte d (λ f0. refl) (λ f4. refl) (λ f5. refl) (λ f6. refl) (λ low high. refl) (λ low high. refl) (λ ff. refl)
-      (λ none. refl))
-      (λ low. by_value Same byte d refl (λ f0. refl) refl refl refl refl)
 
   -- A command: F5, F6 and FF choose set 2, and no other chooses one.
   Chosen : Dock → Type 0
@@ -154,7 +146,7 @@ module _ (d : Dock) (o : Onlooker) (k : Knows d o) (range : in_range d ≡ true)
       go : (u : Result ℕ FrameError) → Knows (took_frame u d).dock (saw_frame u o)
       go (Ok byte) =
           closing_knows (took_byte byte d) (saw_byte byte o) (
-            took_map d byte ∙ k.0,
+            took_leaves d byte ∙ k.0,
             took_scanning d byte ∙ ap (scanning_after byte) k.1,
             took_waiting d byte ∙ ap (waiting_after byte) k.2,
             took_chosen d byte ∙ ap₂ (set_after byte) k.2 k.3,

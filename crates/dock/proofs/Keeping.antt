@@ -10,12 +10,12 @@ use Rattle.commands.proofs.Ladder.{by_command}
 use Rattle.host.specs.Values.{took_byte}
 use Rattle.host.proofs.Ladder.{by_value, by_byte}
 use Rattle.record.specs.declared.Dock.{Dock}
+use Rattle.record.specs.Parts.{dock_with}
 use Rattle.record.specs.Power.{fresh_with}
+use Rattle.dock.specs.Answers.{taken}
 use Rattle.dock.specs.Closing.{closing}
 use Rattle.dock.specs.Scan.{counting, changed, repeating, heard_scan, scan_of}
 use Rattle.dock.specs.Frame.{frame_of}
-use Rattle.record.specs.Parts.{dock_with}
-use Rattle.dock.specs.Answers.{taken}
 use Rattle.dock.specs.Read.{remembering, reply_taken, key_byte_taken, read, read_of}
 use Rattle.dock.proofs.Calls.{scan_keeps, frame_keeps, read_keeps}
 
@@ -45,14 +45,16 @@ module _ (d : Dock) where
 
   pub scan_leaves : (scan : List ℕ) → SamePanel d (scan_of d scan).dock
   unfolding heard_scan repeating changed counting
-  scan_leaves scan = scan_keeps (SamePanel d) ends_panel d (refl, refl) scan (picked (λ (e : Dock). SamePanel d (repeating e)) (is_phantom scan) _ _ (refl, refl) (refl, refl))
+  scan_leaves scan =
+      scan_keeps (SamePanel d) ends_panel d (refl, refl) scan
+      (picked (λ (e : Dock). SamePanel d (repeating e)) (is_phantom scan) _ _ (refl, refl) (refl, refl))
 
   pub took_leaves : (byte : ℕ) → SameMap d (took_byte byte d)
   unfolding commanded fresh_with
   took_leaves byte =
       by_byte (SameMap d) byte d (λ fe. refl)
-      (λ other high. by_command (SameMap d) byte d (λ f0. refl) (λ f4. refl) (λ f5. refl) (λ f6. refl) (λ low high. refl) (λ low high. refl)
-      (λ ff. refl) (λ none. refl))
+      (λ other high. by_command (SameMap d) byte d (λ f0. refl) (λ f4. refl) (λ f5. refl) (λ f6. refl)
+      (λ low high. refl) (λ low high. refl) (λ ff. refl) (λ none. refl))
       (λ low. by_value (SameMap d) byte d refl (λ f0. refl) refl refl refl refl)
 
   pub frame_leaves : (number : ℕ) → SameMap d (frame_of d number).dock
@@ -60,7 +62,9 @@ module _ (d : Dock) where
 
   pub read_leaves : SameContacts d (read_of d).dock
   unfolding remembering
-  read_leaves = read_keeps (SameContacts d) ends_contacts d (refl, refl, refl, refl) (λ byte. (refl, refl, refl, refl)) (λ byte. (refl, refl, refl, refl))
+  read_leaves =
+      read_keeps (SameContacts d) ends_contacts d (refl, refl, refl, refl)
+      (λ byte. (refl, refl, refl, refl)) (λ byte. (refl, refl, refl, refl))
 
 -- Nor does a read look at map or contacts: with others it gives the same, and leaves the same beside them.
 abbrev pub beside : List ℕ → List ℕ → List ℕ → Dock → Dock

@@ -56,8 +56,8 @@ pub fn keydock_power_on(lent: &mut [u8]) -> i32
     0
 }
 
-// The record in lent bytes, copied part by part. A macro, since what a function gives is put together in one place and copied from there:
-// with `record_in` a scan at rest would take about a hundred instructions more.
+// The record in lent bytes, copied part by part. A macro, since what a function gives is put together in one place and copied from there: a
+// read, tried with `record_in`, took a hundred instructions more.
 macro_rules! copied {
     ($lent:ident) => {
         Dock {

@@ -123,6 +123,11 @@ abbrev pub error_says : ReadError → Said
 error_says (BadState state) = refused 9
 error_says (BadSet state) = refused 7
 
+-- The state that a refusal hands back.
+abbrev pub state_in : ReadError → ℕ
+state_in (BadState state) = state
+state_in (BadSet state) = state
+
 -- What an answer says is what its event says, or the refusal,
 abbrev pub answer_says : Result Answer ReadError → Said
 answer_says (Ok answer) = event_says answer.event
